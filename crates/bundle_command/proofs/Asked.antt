@@ -99,11 +99,11 @@ push_none c frames frame none = given-push c frames frame ∙ ap (λ ps. packets
 
 pub given_here : (n c : ℕ) (packet : List ℕ) (at : Woven) (answer : Standing) → packets_given c (woven_on n at (frame_of answer c packet at.frames)).frames ≡ packets_given c at.frames ++ news answer packet
 given_here n c packet at answer =
-    let given = packets_given c at.frames in
-    on_answer n c packet at answer (λ fs. packets_given c fs ≡ given ++ news answer packet)
-    (λ e. given-push c at.frames (PacketFrame c packet) ∙ ap (λ ps. given ++ ps) (packet_here c packet) ∙ ap (λ a. given ++ news a packet) (sym e))
+    let offered = packets_given c at.frames in
+    on_answer n c packet at answer (λ fs. packets_given c fs ≡ offered ++ news answer packet)
+    (λ e. offered-push c at.frames (PacketFrame c packet) ∙ ap (λ ps. offered ++ ps) (packet_here c packet) ∙ ap (λ a. offered ++ news a packet) (sym e))
     (λ other.
-    let none : given ≡ given ++ news answer packet = sym (ap (λ ps. given ++ ps) (no_news answer packet other) ∙ append-nil given) in
+    let none : offered ≡ offered ++ news answer packet = sym (ap (λ ps. offered ++ ps) (no_news answer packet other) ∙ append-nil offered) in
     (none, push_none c at.frames IdleFrame refl ∙ none, push_none c at.frames (LossFrame c) refl ∙ none))
 
 pub given_there : (n c d : ℕ) (packet : List ℕ) (at : Woven) (answer : Standing) → d ≢ c → packets_given c (woven_on n at (frame_of answer d packet at.frames)).frames ≡ packets_given c at.frames
@@ -156,13 +156,13 @@ ends_on cids n c packet at answer end h =
 sat_sum : (g k : ℕ) → saturated (saturated g + k) ≡ saturated (g + k)
 sat_sum g k = omega arith
 
-pub end_told : (answer : Standing) (given g size bytes was end : ℕ) → given ≡ saturated g → g ≡ bytes → was ≡ saturated end → end_after answer given size was ≡ saturated (next_end answer bytes size end)
-end_told standing.Going given g size bytes was end e f k = ap (λ x. saturated (x + (size + 16))) e ∙ sat_sum g (size + 16) ∙ ap (λ x. saturated (x + (size + 16))) f
-end_told standing.Fresh given g size bytes was end e f k = k
-end_told standing.Ended given g size bytes was end e f k = k
-end_told standing.Bad given g size bytes was end e f k = k
-end_told standing.Lost given g size bytes was end e f k = k
-end_told standing.More given g size bytes was end e f k = k
+pub end_told : (answer : Standing) (emitted g size bytes was end : ℕ) → emitted ≡ saturated g → g ≡ bytes → was ≡ saturated end → end_after answer emitted size was ≡ saturated (next_end answer bytes size end)
+end_told standing.Going emitted g size bytes was end e f k = ap (λ x. saturated (x + (size + 16))) e ∙ sat_sum g (size + 16) ∙ ap (λ x. saturated (x + (size + 16))) f
+end_told standing.Fresh emitted g size bytes was end e f k = k
+end_told standing.Ended emitted g size bytes was end e f k = k
+end_told standing.Bad emitted g size bytes was end e f k = k
+end_told standing.Lost emitted g size bytes was end e f k = k
+end_told standing.More emitted g size bytes was end e f k = k
 
 -- ---- channels that were never asked
 
@@ -220,30 +220,30 @@ unasked_on cids at end c index packet standing.More few h asked differ here = un
 
 -- ---- what the channel's text offers
 
-over_offers : (c : ℕ) (frames : List WovenFrame) (given : List (List ℕ)) (input : ClientInput) (lost : Bool) → given ≡ packets_given c frames → channel_text input ≡ record { packets = given; is_lost = lost }
+over_offers : (c : ℕ) (frames : List WovenFrame) (offered : List (List ℕ)) (input : ClientInput) (lost : Bool) → offered ≡ packets_given c frames → channel_text input ≡ record { packets = offered; is_lost = lost }
     → offer c (channel_text input) frames ≡ given_of c frames None lost
-over_offers c frames given input lost e text =
-    ap (λ t. offer c t frames) text ∙ ap (λ g. given_of c frames (slice_get given (length g)) lost) (sym e) ∙ ap (λ o. given_of c frames o lost) (get_none given)
+over_offers c frames offered input lost e text =
+    ap (λ t. offer c t frames) text ∙ ap (λ g. given_of c frames (slice_get offered (length g)) lost) (sym e) ∙ ap (λ o. given_of c frames o lost) (get_none offered)
 
-pub offers : (first now : InView) (taken : List ℕ) (given : List (List ℕ)) (c : ℕ) (frames : List WovenFrame) (next : Channel) (input : ClientInput) (packet : List ℕ) (answer : Standing) → given ≡ packets_given c frames
-    → ChannelStands first now taken (given ++ news answer packet) next → next.standing ≡ answer → (answer ≢ standing.Fresh) × (answer ≢ standing.More) → MayShow (lines_view next.lines) taken input
+pub offers : (first now : InView) (read : List ℕ) (offered : List (List ℕ)) (c : ℕ) (frames : List WovenFrame) (next : Channel) (input : ClientInput) (packet : List ℕ) (answer : Standing) → offered ≡ packets_given c frames
+    → ChannelStands first now read (offered ++ news answer packet) next → next.standing ≡ answer → (answer ≢ standing.Fresh) × (answer ≢ standing.More) → MayShow (lines_view next.lines) read input
     → offer c (channel_text input) frames ≡ frame_of answer c packet frames
-offers first now taken given c frames next input packet standing.Going e stands is closed may =
-    let t = going_text first now taken (given ++ packet ∷ []) next input stands is may in
+offers first now read offered c frames next input packet standing.Going e stands is closed may =
+    let t = going_text first now read (offered ++ packet ∷ []) next input stands is may in
     let here : slice_get (channel_text input).packets (length (packets_given c frames)) ≡ Some packet =
-    ap (λ (g : List (List ℕ)). slice_get (channel_text input).packets (length g)) (sym e) ∙ ap (λ ps. slice_get ps (length given)) (t.1 ∙ append_assoc given (packet ∷ []) t.0) ∙ get_next given t.0 packet in
+    ap (λ (g : List (List ℕ)). slice_get (channel_text input).packets (length g)) (sym e) ∙ ap (λ ps. slice_get ps (length offered)) (t.1 ∙ append_assoc offered (packet ∷ []) t.0) ∙ get_next offered t.0 packet in
     ap (λ o. given_of c frames o (channel_text input).is_lost) here
-offers first now taken given c frames next input packet standing.Ended e stands is closed may =
-    let t = subst (λ s. OverText s (given ++ []) input) is (over_text first now taken (given ++ []) next input stands (subst is_over (sym is) tt) may) in
-    over_offers c frames given input false e (t.text ∙ ap (λ g. record { packets = g; is_lost = false }) (append-nil given))
-offers first now taken given c frames next input packet standing.Bad e stands is closed may =
-    let t = subst (λ s. OverText s (given ++ []) input) is (over_text first now taken (given ++ []) next input stands (subst is_over (sym is) tt) may) in
-    over_offers c frames given input false e (t.text ∙ ap (λ g. record { packets = g; is_lost = false }) (append-nil given))
-offers first now taken given c frames next input packet standing.Lost e stands is closed may =
-    let t = subst (λ s. OverText s (given ++ []) input) is (over_text first now taken (given ++ []) next input stands (subst is_over (sym is) tt) may) in
-    over_offers c frames given input true e (t.text ∙ ap (λ g. record { packets = g; is_lost = true }) (append-nil given))
-offers first now taken given c frames next input packet standing.Fresh e stands is closed may = absurd (closed.0 refl)
-offers first now taken given c frames next input packet standing.More e stands is closed may = absurd (closed.1 refl)
+offers first now read offered c frames next input packet standing.Ended e stands is closed may =
+    let t = subst (λ s. OverText s (offered ++ []) input) is (over_text first now read (offered ++ []) next input stands (subst is_over (sym is) tt) may) in
+    over_offers c frames offered input false e (t.text ∙ ap (λ g. record { packets = g; is_lost = false }) (append-nil offered))
+offers first now read offered c frames next input packet standing.Bad e stands is closed may =
+    let t = subst (λ s. OverText s (offered ++ []) input) is (over_text first now read (offered ++ []) next input stands (subst is_over (sym is) tt) may) in
+    over_offers c frames offered input false e (t.text ∙ ap (λ g. record { packets = g; is_lost = false }) (append-nil offered))
+offers first now read offered c frames next input packet standing.Lost e stands is closed may =
+    let t = subst (λ s. OverText s (offered ++ []) input) is (over_text first now read (offered ++ []) next input stands (subst is_over (sym is) tt) may) in
+    over_offers c frames offered input true e (t.text ∙ ap (λ g. record { packets = g; is_lost = true }) (append-nil offered))
+offers first now read offered c frames next input packet standing.Fresh e stands is closed may = absurd (closed.0 refl)
+offers first now read offered c frames next input packet standing.More e stands is closed may = absurd (closed.1 refl)
 
 -- ---- the step
 
@@ -254,14 +254,14 @@ pub texts_many : (n : ℕ) (inputs : ℕ → ClientInput) → length (texts_of n
 texts_many n inputs = length-map-range_with_len (λ c. channel_text (inputs c)) 0 n
 
 -- one more of one channel was taken
-abbrev pub taken_on : (ℕ → List ℕ) → (index : ℕ) → (came : List ℕ) → ℕ → List ℕ
-taken_on taken index came c = cond (c == index) (taken c ++ came) (taken c)
+abbrev pub taken_on : (ℕ → List ℕ) → (index : ℕ) → (further : List ℕ) → ℕ → List ℕ
+taken_on read index further c = cond (c == index) (read c ++ further) (read c)
 
-pub taken_here : (taken : ℕ → List ℕ) (index : ℕ) (came : List ℕ) → taken_on taken index came index ≡ taken index ++ came
-taken_here taken index came = ap (λ b. cond b (taken index ++ came) (taken index)) (eq-eqb index index refl)
+pub taken_here : (read : ℕ → List ℕ) (index : ℕ) (further : List ℕ) → taken_on read index further index ≡ read index ++ further
+taken_here read index further = ap (λ b. cond b (read index ++ further) (read index)) (eq-eqb index index refl)
 
-pub taken_there : (taken : ℕ → List ℕ) (index c : ℕ) (came : List ℕ) → c ≢ index → taken_on taken index came c ≡ taken c
-taken_there taken index c came differ = ap (λ b. cond b (taken c ++ came) (taken c)) (ne_eqb c index differ)
+pub taken_there : (read : ℕ → List ℕ) (index c : ℕ) (further : List ℕ) → c ≢ index → taken_on read index further c ≡ read c
+taken_there read index c further differ = ap (λ b. cond b (read c ++ further) (read c)) (ne_eqb c index differ)
 
 -- a channel is the one that was asked, or another
 pub which : (c index : ℕ) → (c ≡ index) ⊎ (c ≢ index)
@@ -291,13 +291,13 @@ only_on clients first was is client index before only same here = record {
     contains_at : (clients : List ℕ) (index n : ℕ) → index < length clients → n ≡ get_or clients index 0 → Contains clients n
     contains_at clients index n here e = subst (Contains clients) (sym e) (Contains-get_or clients index 0 here)
 
-pub asks : (clients : List ℕ) (first was is : BaysView) (given : List ℕ) (old mid new : Weaving) (index : ℕ) (answer : Standing) → old.maker.maker.hand ≡ [] → IsAsked index old.maker
-    → mid.maker ≡ old.maker → mid.given ≡ old.given → mid.end ≡ old.end → ChannelAsked index was old.channels.items is mid.channels.items answer
+pub asks : (clients : List ℕ) (first was is : BaysView) (emitted : List ℕ) (old mid new : Weaving) (index : ℕ) (answer : Standing) → old.maker.maker.hand ≡ [] → IsAsked index old.maker
+    → mid.maker ≡ old.maker → mid.emitted ≡ old.emitted → mid.end ≡ old.end → ChannelAsked index was old.channels.items is mid.channels.items answer
     → ((channel : Channel) → HasChannel mid.channels.items index channel → IsTold answer (lines_view channel.lines).packet mid new)
-    → WeavingReady clients first was given old → WeavingReady clients first is given new
-asks clients first was is given old mid new index answer idle which_is maker_same given_same end_same asked tells ready =
+    → WeavingReady clients first was emitted old → WeavingReady clients first is emitted new
+asks clients first was is emitted old mid new index answer idle which_is maker_same given_same end_same asked tells ready =
     record {
-      taken = later;
+      read = later;
       at = next_at;
       has = record {
         list = has.list;
@@ -309,12 +309,12 @@ asks clients first was is given old mid new index answer idle which_is maker_sam
         each = λ c channel known. each c channel known (which c index);
         weave = weave;
         only = only_on clients first was is asked.channel.client index has.only asked.only (here_at.client) here;
-        given_is = told.given ∙ given_same ∙ has.given_is;
-        end_is = told.end ∙ ap (λ x. end_after answer mid.given (length packet) x) end_same
-            ∙ end_told answer mid.given (length given) (length packet) bytes old.end has.end (given_same ∙ has.given_is) all_given has.end_is;
+        given_is = told.emitted ∙ given_same ∙ has.given_is;
+        end_is = told.end ∙ ap (λ x. end_after answer mid.emitted (length packet) x) end_same
+            ∙ end_told answer mid.emitted (length emitted) (length packet) bytes old.end has.end (given_same ∙ has.given_is) all_given has.end_is;
       };
       unsettled = λ c channel known. unsettled c channel known (which c index);
-      begun = begun_on clients n index (length given) packet at answer ready.begun (subst (λ k. k ≤ length given) all_given (omega arith));
+      begun = begun_on clients n index (length emitted) packet at answer ready.begun (subst (λ k. k ≤ length emitted) all_given (omega arith));
       told = λ hand. by_others hand (others_on n at (frame_of answer index packet at.frames));
     }
   where
@@ -324,7 +324,7 @@ asks clients first was is given old mid new index answer idle which_is maker_sam
     at : Woven
     at = ready.at
 
-    has : WeavingHas clients first was ready.taken ready.at given old
+    has : WeavingHas clients first was ready.read ready.at emitted old
     has = ready.has
 
     packet : List ℕ
@@ -333,8 +333,8 @@ asks clients first was is given old mid new index answer idle which_is maker_sam
     bytes : ℕ
     bytes = woven_bytes clients ready.at.frames
 
-    all_given : length given ≡ woven_bytes clients ready.at.frames
-    all_given = (let b = given_bytes clients ready.at given old.maker ready.has.woven in let none = ap length idle in omega arith)
+    all_given : length emitted ≡ woven_bytes clients ready.at.frames
+    all_given = (let b = given_bytes clients ready.at emitted old.maker ready.has.woven in let none = ap length idle in omega arith)
 
     within : index < length old.channels.items
     within = slice_get_within old.channels.items index asked.channel asked.known
@@ -343,18 +343,18 @@ asks clients first was is given old mid new index answer idle which_is maker_sam
     here = (let many = ready.has.many in let less = slice_get_within old.channels.items index asked.channel asked.known in omega arith)
 
     index_is : index ≡ channel_at (length clients) ready.at
-    index_is = which_is clients ready.at given ready.has.woven
+    index_is = which_is clients ready.at emitted ready.has.woven
 
-    here_at : ChannelAt clients first was (ready.taken index) ready.at ready.has.end index asked.channel
+    here_at : ChannelAt clients first was (ready.read index) ready.at ready.has.end index asked.channel
     here_at = ready.has.each index asked.channel asked.known
 
-    answered : Answered (place_of clients first index) (client_in_at is asked.channel.client) (ready.taken index) (packets_given index ready.at.frames ++ news answer (lines_view asked.next.lines).packet) asked.channel asked.next
-    answered = asked.answered (place_of clients first index) (ready.taken index) (packets_given index ready.at.frames)
-        (subst (λ k. ChannelStands (place_of clients first index) (client_in_at was k) (ready.taken index) (packets_given index ready.at.frames) asked.channel) (sym (ready.has.each index asked.channel asked.known).client)
+    answered : Answered (place_of clients first index) (client_in_at is asked.channel.client) (ready.read index) (packets_given index ready.at.frames ++ news answer (lines_view asked.next.lines).packet) asked.channel asked.next
+    answered = asked.answered (place_of clients first index) (ready.read index) (packets_given index ready.at.frames)
+        (subst (λ k. ChannelStands (place_of clients first index) (client_in_at was k) (ready.read index) (packets_given index ready.at.frames) asked.channel) (sym (ready.has.each index asked.channel asked.known).client)
         (ready.has.each index asked.channel asked.known).stands)
 
     later : ℕ → List ℕ
-    later = taken_on ready.taken index answered.came
+    later = taken_on ready.read index answered.further
 
     next_at : Woven
     next_at = woven_on (length clients) ready.at (frame_of answer index packet ready.at.frames)
@@ -365,13 +365,13 @@ asks clients first was is given old mid new index answer idle which_is maker_sam
     told : IsTold answer packet mid new
     told = tells asked.next next_known
 
-    woven : HasWoven clients next_at given new.maker
-    woven = subst (λ c. HasWoven clients (woven_on n at (frame_of answer c packet at.frames)) given new.maker) (sym index_is) (told.woven clients at given (subst (HasWoven clients at given) (sym maker_same) has.woven))
+    woven : HasWoven clients next_at emitted new.maker
+    woven = subst (λ c. HasWoven clients (woven_on n at (frame_of answer c packet at.frames)) emitted new.maker) (sym index_is) (told.woven clients at emitted (subst (HasWoven clients at emitted) (sym maker_same) has.woven))
 
     by_others : new.maker.maker.hand ≢ [] → (next_at.others ≡ 0) ⊎ (next_at.frames ≡ at.frames) → next_at.others ≡ 0
     by_others hand (inl e) = e
     by_others hand (inr same) =
-        let all = given_bytes clients next_at given new.maker woven in
+        let all = given_bytes clients next_at emitted new.maker woven in
         let bytes : woven_bytes clients next_at.frames ≡ woven_bytes clients ready.at.frames = ap (woven_bytes clients) same in
         let some = some_length new.maker.maker.hand hand in
         absurd (omega (arith, all, bytes, some, all_given))
@@ -381,9 +381,9 @@ asks clients first was is given old mid new index answer idle which_is maker_sam
 
     each_here : ChannelAt clients first is (later index) next_at (next_end answer bytes (length packet) has.end) index asked.next
     each_here = record {
-      stands = subst (λ t. ChannelStands (place_of clients first index) (place_of clients is index) t (packets_given index next_at.frames) asked.next) (sym (taken_here ready.taken index answered.came))
-          (subst (λ g. ChannelStands (place_of clients first index) (place_of clients is index) (ready.taken index ++ answered.came) g asked.next) (sym (given_here n index packet at answer))
-          (subst (λ k. ChannelStands (place_of clients first index) (client_in_at is k) (ready.taken index ++ answered.came) (packets_given index at.frames ++ news answer packet) asked.next) here_at.client answered.stands));
+      stands = subst (λ t. ChannelStands (place_of clients first index) (place_of clients is index) t (packets_given index next_at.frames) asked.next) (sym (taken_here ready.read index answered.further))
+          (subst (λ g. ChannelStands (place_of clients first index) (place_of clients is index) (ready.read index ++ answered.further) g asked.next) (sym (given_here n index packet at answer))
+          (subst (λ k. ChannelStands (place_of clients first index) (client_in_at is k) (ready.read index ++ answered.further) (packets_given index at.frames ++ news answer packet) asked.next) here_at.client answered.stands));
       client = asked.client ∙ here_at.client;
       unasked = λ fresh. absurd (asked.closed.0 (sym asked.standing ∙ fresh));
       untouched = λ fresh. absurd (asked.closed.0 (sym asked.standing ∙ fresh));
@@ -400,9 +400,9 @@ asks clients first was is given old mid new index answer idle which_is maker_sam
         let there : c < n = (let many = has.many in let less = slice_get_within old.channels.items c channel before in omega arith) in
         let was_at = has.each c channel before in
         record {
-          stands = subst (λ t. ChannelStands (place_of clients first c) (place_of clients is c) t (packets_given c next_at.frames) channel) (sym (taken_there ready.taken index c answered.came differ))
-              (subst (λ g. ChannelStands (place_of clients first c) (place_of clients is c) (ready.taken c) g channel) (sym (given_there n c index packet at answer (λ e. differ (sym e))))
-              (subst (λ v. ChannelStands (place_of clients first c) v (ready.taken c) (packets_given c at.frames) channel) (sym (other_place clients was is asked.channel.client index c has.list asked.only here_at.client here there differ)) was_at.stands));
+          stands = subst (λ t. ChannelStands (place_of clients first c) (place_of clients is c) t (packets_given c next_at.frames) channel) (sym (taken_there ready.read index c answered.further differ))
+              (subst (λ g. ChannelStands (place_of clients first c) (place_of clients is c) (ready.read c) g channel) (sym (given_there n c index packet at answer (λ e. differ (sym e))))
+              (subst (λ v. ChannelStands (place_of clients first c) v (ready.read c) (packets_given c at.frames) channel) (sym (other_place clients was is asked.channel.client index c has.list asked.only here_at.client here there differ)) was_at.stands));
           client = was_at.client;
           unasked = λ fresh. unasked_on clients at has.end c index packet answer (λ e. (asked.packet e).1) (was_at.unasked fresh) index_is differ there;
           untouched = λ fresh. other_place clients was is asked.channel.client index c has.list asked.only here_at.client here there differ ∙ was_at.untouched fresh;
@@ -417,13 +417,13 @@ asks clients first was is given old mid new index answer idle which_is maker_sam
 
     weave : (inputs : ℕ → ClientInput) → MayShowAll new.channels.items later inputs → IsWeave (texts_of n inputs) next_at
     weave inputs may =
-        let may_here : MayShow (lines_view asked.next.lines) (ready.taken index ++ answered.came) (inputs index) =
-        subst (λ t. MayShow (lines_view asked.next.lines) t (inputs index)) (taken_here ready.taken index answered.came) (may index asked.next (ap (λ cs. slice_get cs index) channels_is ∙ set_at old.channels.items index asked.next within)) in
-        let earlier : MayShowAll old.channels.items ready.taken inputs = λ c channel known. before c channel known (which c index) may may_here in
+        let may_here : MayShow (lines_view asked.next.lines) (ready.read index ++ answered.further) (inputs index) =
+        subst (λ t. MayShow (lines_view asked.next.lines) t (inputs index)) (taken_here ready.read index answered.further) (may index asked.next (ap (λ cs. slice_get cs index) channels_is ∙ set_at old.channels.items index asked.next within)) in
+        let earlier : MayShowAll old.channels.items ready.read inputs = λ c channel known. before c channel known (which c index) may may_here in
         let texts = texts_of n inputs in
         let offered : offer index (get_or texts index no_text) at.frames ≡ frame_of answer index packet at.frames =
         ap (λ t. offer index t at.frames) (text_at n index inputs here)
-        ∙ offers (place_of clients first index) (client_in_at is asked.channel.client) (ready.taken index ++ answered.came) (packets_given index at.frames) index at.frames asked.next (inputs index) packet answer refl
+        ∙ offers (place_of clients first index) (client_in_at is asked.channel.client) (ready.read index ++ answered.further) (packets_given index at.frames) index at.frames asked.next (inputs index) packet answer refl
         answered.stands asked.standing asked.closed may_here in
         let on : IsWeave texts (woven_on (length texts) at (offer index (get_or texts index no_text) at.frames)) =
         weave_goes_on texts at index (has.weave inputs earlier) (index_is ∙ ap (λ k. channel_at k at) (sym (texts_many n inputs))) in
@@ -431,11 +431,11 @@ asks clients first was is given old mid new index answer idle which_is maker_sam
         (subst (λ o. IsWeave texts (woven_on (length texts) at o)) offered on)
       where
         before : (c : ℕ) (channel : Channel) → HasChannel old.channels.items c channel → (c ≡ index) ⊎ (c ≢ index) → MayShowAll new.channels.items later inputs
-            → MayShow (lines_view asked.next.lines) (ready.taken index ++ answered.came) (inputs index) → MayShow (lines_view channel.lines) (ready.taken c) (inputs c)
+            → MayShow (lines_view asked.next.lines) (ready.read index ++ answered.further) (inputs index) → MayShow (lines_view channel.lines) (ready.read c) (inputs c)
         before c channel known (inl same) may may_here =
             let is_old : asked.channel ≡ channel = same_Some asked.channel channel (sym asked.known ∙ subst (λ k. HasChannel old.channels.items k channel) same known) in
-            subst (λ k. MayShow (lines_view channel.lines) (ready.taken k) (inputs k)) (sym same)
-            (subst (λ (ch : Channel). MayShow (lines_view ch.lines) (ready.taken index) (inputs index)) is_old (answered.earlier (inputs index) may_here))
+            subst (λ k. MayShow (lines_view channel.lines) (ready.read k) (inputs k)) (sym same)
+            (subst (λ (ch : Channel). MayShow (lines_view ch.lines) (ready.read index) (inputs index)) is_old (answered.earlier (inputs index) may_here))
         before c channel known (inr differ) may may_here =
-            subst (λ t. MayShow (lines_view channel.lines) t (inputs c)) (taken_there ready.taken index c answered.came differ)
+            subst (λ t. MayShow (lines_view channel.lines) t (inputs c)) (taken_there ready.read index c answered.further differ)
             (may c channel (ap (λ cs. slice_get cs c) channels_is ∙ set_beside old.channels.items index c asked.next differ ∙ known))

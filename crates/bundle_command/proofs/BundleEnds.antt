@@ -43,8 +43,8 @@ use Rattle.bundle_command.proofs.Within.{all_whole, front_fewer}
 
 -- ---- what is known of the channels, where their inputs are these
 
-pub record Known (clients : List ℕ) (turns : ℕ) (first last : BaysView) (given : List ℕ) (weaving : Weaving) (inputs : ℕ → ClientInput) (settled : IsSettled (length clients) clients first last given weaving) : Type 0 where
-  pub shows : MayShowAll weaving.channels.items settled.taken inputs
+pub record Known (clients : List ℕ) (turns : ℕ) (first last : BaysView) (emitted : List ℕ) (weaving : Weaving) (inputs : ℕ → ClientInput) (settled : IsSettled (length clients) clients first last emitted weaving) : Type 0 where
+  pub shows : MayShowAll weaving.channels.items settled.read inputs
   pub stream : Stream clients (texts_of (length clients) inputs) turns settled.at.frames
 
 -- a channel of the list
@@ -62,28 +62,28 @@ pub few_bytes : (turns : ℕ) → turns ≤ 16384 → payload_whole turns < 1000
 few_bytes turns few = omega arith
 
 -- all is finished where each text has ended and the last packet lies whole
-pub is_finished : (clients : List ℕ) (turns : ℕ) (first last : BaysView) (given : List ℕ) (weaving : Weaving) (inputs : ℕ → ClientInput) (settled : IsSettled (length clients) clients first last given weaving)
-    → Known clients turns first last given weaving inputs settled → ((c : ℕ) (channel : Channel) → HasChannel weaving.channels.items c channel → channel.standing ≡ standing.Ended) → settled.has.end ≤ payload_whole turns
+pub is_finished : (clients : List ℕ) (turns : ℕ) (first last : BaysView) (emitted : List ℕ) (weaving : Weaving) (inputs : ℕ → ClientInput) (settled : IsSettled (length clients) clients first last emitted weaving)
+    → Known clients turns first last emitted weaving inputs settled → ((c : ℕ) (channel : Channel) → HasChannel weaving.channels.items c channel → channel.standing ≡ standing.Ended) → settled.has.end ≤ payload_whole turns
     → IsFinished clients turns inputs
-is_finished clients turns first last given weaving inputs settled known ended whole = record {
+is_finished clients turns first last emitted weaving inputs settled known ended whole = record {
   ends = λ c here. (let k = channel_at clients weaving.channels.items c settled.has.many here in
-      let t = over_text (place_of clients first c) (place_of clients last c) (settled.taken c) (packets_given c settled.at.frames) k.0 (inputs c) (settled.has.each c k.0 k.1).stands (subst is_over (sym (ended c k.0 k.1)) tt) (known.shows c k.0 k.1) in
+      let t = over_text (place_of clients first c) (place_of clients last c) (settled.read c) (packets_given c settled.at.frames) k.0 (inputs c) (settled.has.each c k.0 k.1).stands (subst is_over (sym (ended c k.0 k.1)) tt) (known.shows c k.0 k.1) in
       t.ends ∙ ap is_ended_so (ended c k.0 k.1));
   whole = λ c here. (let k = channel_at clients weaving.channels.items c settled.has.many here in
-      let t = over_text (place_of clients first c) (place_of clients last c) (settled.taken c) (packets_given c settled.at.frames) k.0 (inputs c) (settled.has.each c k.0 k.1).stands (subst is_over (sym (ended c k.0 k.1)) tt) (known.shows c k.0 k.1) in
+      let t = over_text (place_of clients first c) (place_of clients last c) (settled.read c) (packets_given c settled.at.frames) k.0 (inputs c) (settled.has.each c k.0 k.1).stands (subst is_over (sym (ended c k.0 k.1)) tt) (known.shows c k.0 k.1) in
       known.stream.whole c ∙ all_whole clients (payload_whole turns) settled.has.end c settled.at.frames settled.has.ends whole ∙ sym (ap (λ (t : ChannelText). t.packets) t.text));
 }
 
 -- and not where one has not
-pub open_one : (clients : List ℕ) (turns hand : ℕ) (first last : BaysView) (given : List ℕ) (weaving : Weaving) (inputs : ℕ → ClientInput) (settled : IsSettled (length clients) clients first last given weaving)
-    → Known clients turns first last given weaving inputs settled → 1 ≤ turns → payload_sent turns + hand ≡ woven_bytes clients settled.at.frames → (c : ℕ) (channel : Channel) → HasChannel weaving.channels.items c channel → channel.standing ≢ standing.Ended
+pub open_one : (clients : List ℕ) (turns hand : ℕ) (first last : BaysView) (emitted : List ℕ) (weaving : Weaving) (inputs : ℕ → ClientInput) (settled : IsSettled (length clients) clients first last emitted weaving)
+    → Known clients turns first last emitted weaving inputs settled → 1 ≤ turns → payload_sent turns + hand ≡ woven_bytes clients settled.at.frames → (c : ℕ) (channel : Channel) → HasChannel weaving.channels.items c channel → channel.standing ≢ standing.Ended
     → IsFinished clients turns inputs → ⊥
-open_one clients turns hand first last given weaving inputs settled known some all c channel at other done = go channel.standing refl
+open_one clients turns hand first last emitted weaving inputs settled known some all c channel at other done = go channel.standing refl
   where
     here : c < length clients
     here = (let many = settled.has.many in let less = slice_get_within weaving.channels.items c channel at in omega arith)
 
-    chan : ChannelAt clients first last (settled.taken c) settled.at settled.has.end c channel
+    chan : ChannelAt clients first last (settled.read c) settled.at settled.has.end c channel
     chan = settled.has.each c channel at
 
     false_true : false ≢ true
@@ -91,7 +91,7 @@ open_one clients turns hand first last given weaving inputs settled known some a
 
     not_ended : (s : Standing) → channel.standing ≡ s → is_over s → is_ended_so s ≡ false → ⊥
     not_ended s e over none =
-        let t = over_text (place_of clients first c) (place_of clients last c) (settled.taken c) (packets_given c settled.at.frames) channel (inputs c) chan.stands (subst is_over (sym e) over) (known.shows c channel at) in
+        let t = over_text (place_of clients first c) (place_of clients last c) (settled.read c) (packets_given c settled.at.frames) channel (inputs c) chan.stands (subst is_over (sym e) over) (known.shows c channel at) in
         false_true (sym (t.ends ∙ ap is_ended_so e ∙ none) ∙ done.ends c here)
 
     fewer : length (packets_given c (woven_within clients (payload_whole turns) settled.at.frames)) ≤ length (packets_given c settled.at.frames)
@@ -108,7 +108,7 @@ open_one clients turns hand first last given weaving inputs settled known some a
         not_finished clients turns settled.has.end inputs settled.at.frames known.stream settled.has.ends (unasked_late clients turns hand settled.has.end c settled.at settled.has.list here some (chan.unasked e) all) done
     go standing.Bad e = not_ended standing.Bad e tt refl
     go standing.Lost e = not_ended standing.Lost e tt refl
-    go standing.More e = elim (more_text (place_of clients first c) (place_of clients last c) (settled.taken c) (packets_given c settled.at.frames) channel (inputs c) chan.stands e (known.shows c channel at)) [
+    go standing.More e = elim (more_text (place_of clients first c) (place_of clients last c) (settled.read c) (packets_given c settled.at.frames) channel (inputs c) chan.stands e (known.shows c channel at)) [
       | inl bad ↦ false_true (sym bad ∙ done.ends c here)
       | inr more ↦ longer more.0 more.1 more.2
     ]
@@ -147,9 +147,9 @@ or_right : (a b : Bool) → b ≡ true → (a || b) ≡ true
 or_right true b e = refl
 or_right false b e = e
 
-pub cut_of : (clients : List ℕ) (first last : BaysView) (given : List ℕ) (weaving : Weaving) (settled : IsSettled (length clients) clients first last given weaving) (dead : Bool) → DeadClients weaving.channels.items last dead
+pub cut_of : (clients : List ℕ) (first last : BaysView) (emitted : List ℕ) (weaving : Weaving) (settled : IsSettled (length clients) clients first last emitted weaving) (dead : Bool) → DeadClients weaving.channels.items last dead
     → (dead || is_dead (line_out_at last 0).state) ≡ true → IsCut clients last
-cut_of clients first last given weaving settled dead tells e = elim (or_true dead (is_dead (line_out_at last 0).state) e) [
+cut_of clients first last emitted weaving settled dead tells e = elim (or_true dead (is_dead (line_out_at last 0).state) e) [
   | inl d ↦
       let s = tells.some d in
       let here : s.0 < length clients = (let many = settled.has.many in let less = slice_get_within weaving.channels.items s.0 s.1 s.2 in omega arith) in
@@ -158,10 +158,10 @@ cut_of clients first last given weaving settled dead tells e = elim (or_true dea
   | inr o ↦ inr (dead_of (line_out_at last 0).state o)
 ]
 
-pub of_cut : (clients : List ℕ) (first last : BaysView) (given : List ℕ) (weaving : Weaving) (settled : IsSettled (length clients) clients first last given weaving) (dead : Bool) → DeadClients weaving.channels.items last dead
+pub of_cut : (clients : List ℕ) (first last : BaysView) (emitted : List ℕ) (weaving : Weaving) (settled : IsSettled (length clients) clients first last emitted weaving) (dead : Bool) → DeadClients weaving.channels.items last dead
     → IsCut clients last → (dead || is_dead (line_out_at last 0).state) ≡ true
-of_cut clients first last given weaving settled dead tells (inr o) = or_right dead (is_dead (line_out_at last 0).state) (dead_is (line_out_at last 0).state o)
-of_cut clients first last given weaving settled dead tells (inl (c, here, d)) =
+of_cut clients first last emitted weaving settled dead tells (inr o) = or_right dead (is_dead (line_out_at last 0).state) (dead_is (line_out_at last 0).state o)
+of_cut clients first last emitted weaving settled dead tells (inl (c, here, d)) =
     let k = channel_at clients weaving.channels.items c settled.has.many here in
     let client = (settled.has.each c k.0 k.1).client in
     or_left dead (is_dead (line_out_at last 0).state) (by_false dead (λ none.
@@ -172,17 +172,17 @@ of_cut clients first last given weaving settled dead tells (inl (c, here, d)) =
 
 -- ---- the report
 
-pub lines_are : (clients : List ℕ) (turns : ℕ) (first last : BaysView) (given : List ℕ) (weaving : Weaving) (inputs : ℕ → ClientInput) (settled : IsSettled (length clients) clients first last given weaving)
-    → Known clients turns first last given weaving inputs settled → (k : ℕ) → k ≤ length clients
+pub lines_are : (clients : List ℕ) (turns : ℕ) (first last : BaysView) (emitted : List ℕ) (weaving : Weaving) (inputs : ℕ → ClientInput) (settled : IsSettled (length clients) clients first last emitted weaving)
+    → Known clients turns first last emitted weaving inputs settled → (k : ℕ) → k ≤ length clients
     → lines_of (take k weaving.channels.items) last ≡ lines_told clients (texts_of (length clients) inputs) turns (λ c. (place_of clients last c).state) k
 unfolding lines_told lines_of
-lines_are clients turns first last given weaving inputs settled known zero within = refl
-lines_are clients turns first last given weaving inputs settled known (suc k) within =
+lines_are clients turns first last emitted weaving inputs settled known zero within = refl
+lines_are clients turns first last emitted weaving inputs settled known (suc k) within =
     let texts = texts_of (length clients) inputs in
     let chan = channel_at clients weaving.channels.items k settled.has.many (omega arith) in
     let at = settled.has.each k chan.0 chan.1 in
     let packets : chan.0.packets ≡ saturated (length (begun_of clients texts turns k)) = at.stands.count ∙ ap (λ (ps : List (List ℕ)). saturated (length ps)) (sym (known.stream.begun k)) in
     ap (λ n. lines_of (take n weaving.channels.items) last) (let e : suc k ≡ k + 1 = omega arith in e) ∙ lines_on weaving.channels.items last k chan.0 chan.1
-    ∙ ap (λ t. t ++ line_of chan.0 last) (lines_are clients turns first last given weaving inputs settled known k (omega arith))
+    ∙ ap (λ t. t ++ line_of chan.0 last) (lines_are clients turns first last emitted weaving inputs settled known k (omega arith))
     ∙ ap (λ l. lines_told clients texts turns (λ c. (place_of clients last c).state) k ++ l)
     (ap (λ n. channel_line n chan.0.packets (client_in_at last n).state) at.client ∙ ap (λ p. channel_line (get_or clients k 0) p (place_of clients last k).state) packets)

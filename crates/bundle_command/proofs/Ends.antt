@@ -26,17 +26,17 @@ use Rattle.bundle_command.specs.declared.channel.Channel.{Channel}
 
 -- ---- what a client may turn out to be
 
-among : (ended : Bool) (a : Line) (taken given rest : List ℕ) → given ≡ taken ++ rest → (ended ≡ true → rest ≡ []) → (a ≡ End → ended ≡ true) → a ≢ Lost → may_be ended a taken given
-among true a taken given rest parts none end alive = parts ∙ ap (λ bytes. taken ++ bytes) (none refl) ∙ append-nil taken
-among false Packet taken given rest parts none end alive =
-    let f = full_lines-front taken in
-    record { rest = f.rest ++ rest; parts = parts ∙ ap (λ bytes. bytes ++ rest) f.parts ∙ append_assoc (full_lines taken) f.rest rest }
-among false (Bad n) taken given rest parts none end alive = record { rest = rest; parts = parts }
-among false End taken given rest parts none end alive = absurd (let e = end refl in cc)
-among false Lost taken given rest parts none end alive = absurd (alive refl)
+among : (ended : Bool) (a : Line) (read available rest : List ℕ) → available ≡ read ++ rest → (ended ≡ true → rest ≡ []) → (a ≡ End → ended ≡ true) → a ≢ Lost → may_be ended a read available
+among true a read available rest parts none end alive = parts ∙ ap (λ bytes. read ++ bytes) (none refl) ∙ append-nil read
+among false Packet read available rest parts none end alive =
+    let f = full_lines-front read in
+    record { rest = f.rest ++ rest; parts = parts ∙ ap (λ bytes. bytes ++ rest) f.parts ∙ append_assoc (full_lines read) f.rest rest }
+among false (Bad n) read available rest parts none end alive = record { rest = rest; parts = parts }
+among false End read available rest parts none end alive = absurd (let e = end refl in cc)
+among false Lost read available rest parts none end alive = absurd (alive refl)
 
-dead_text : (ended : Bool) (a : Line) (taken given : List ℕ) → ended ≡ false → a ≡ Lost → given ≡ taken → may_be ended a taken (text_of_dead given)
-dead_text ended a taken given e f g = rw (e, f, g) refl
+dead_text : (ended : Bool) (a : Line) (read available : List ℕ) → ended ≡ false → a ≡ Lost → available ≡ read → may_be ended a read (text_of_dead available)
+dead_text ended a read available e f g = rw (e, f, g) refl
 
 same_alive : (s : State) → has_died s s ≡ false
 same_alive Live = refl
@@ -75,45 +75,45 @@ ended_live Empty ended none live = absurd (cc)
 ended_live Dead ended none live = absurd (cc)
 
 -- whether it died, as its lines tell it
-dies : (first was : InView) (taken : List ℕ) (packets : List (List ℕ)) (view : LinesView) → LinesStand first was taken packets view → MayDie view.answer (has_died first.state was.state)
-dies first was taken packets view h = record {
+dies : (first was : InView) (read : List ℕ) (packets : List (List ℕ)) (view : LinesView) → LinesStand first was read packets view → MayDie view.answer (has_died first.state was.state)
+dies first was read packets view h = record {
   ended = λ e. ap (has_died first.state) (h.alive (λ l. end_not_lost (sym e ∙ l))) ∙ same_alive first.state;
   lost = λ e. (let l = h.lost e in rw (l.1, l.2) refl);
 }
 
-text_among : (first was : InView) (taken raw rest : List ℕ) (packets : List (List ℕ)) (view : LinesView) → LinesStand first was taken packets view → raw ≡ taken ++ rest
-    → (more_by was.state view.ended ≡ false → rest ≡ []) → may_be view.ended view.answer taken (cond (has_died first.state was.state) (text_of_dead raw) raw)
-text_among first was taken raw rest packets view h parts over = by_answer (is_lost view.answer)
+text_among : (first was : InView) (read raw rest : List ℕ) (packets : List (List ℕ)) (view : LinesView) → LinesStand first was read packets view → raw ≡ read ++ rest
+    → (more_by was.state view.ended ≡ false → rest ≡ []) → may_be view.ended view.answer read (cond (has_died first.state was.state) (text_of_dead raw) raw)
+text_among first was read raw rest packets view h parts over = by_answer (is_lost view.answer)
   where
-    by_answer : (view.answer ≡ Lost) ⊎ (view.answer ≢ Lost) → may_be view.ended view.answer taken (cond (has_died first.state was.state) (text_of_dead raw) raw)
+    by_answer : (view.answer ≡ Lost) ⊎ (view.answer ≢ Lost) → may_be view.ended view.answer read (cond (has_died first.state was.state) (text_of_dead raw) raw)
     by_answer (inl lost) =
         let l = h.lost lost in
-        let died : has_died first.state was.state ≡ true = (dies first was taken packets view h).lost lost in
+        let died : has_died first.state was.state ≡ true = (dies first was read packets view h).lost lost in
         let none : more_by was.state view.ended ≡ false = ap (λ s. more_by s view.ended) l.1 in
-        let same : raw ≡ taken = parts ∙ ap (λ bytes. taken ++ bytes) (over none) ∙ append-nil taken in
-        subst (λ d. may_be view.ended view.answer taken (cond d (text_of_dead raw) raw)) (sym died) (dead_text view.ended view.answer taken raw l.0 lost same)
+        let same : raw ≡ read = parts ∙ ap (λ bytes. read ++ bytes) (over none) ∙ append-nil read in
+        subst (λ d. may_be view.ended view.answer read (cond d (text_of_dead raw) raw)) (sym died) (dead_text view.ended view.answer read raw l.0 lost same)
     by_answer (inr alive) =
         let lives : has_died first.state was.state ≡ false = ap (has_died first.state) (h.alive alive) ∙ same_alive first.state in
-        subst (λ d. may_be view.ended view.answer taken (cond d (text_of_dead raw) raw)) (sym lives)
-        (among view.ended view.answer taken raw rest parts (λ e. over (none_ended was.state view.ended e)) h.ended alive)
+        subst (λ d. may_be view.ended view.answer read (cond d (text_of_dead raw) raw)) (sym lives)
+        (among view.ended view.answer read raw rest parts (λ e. over (none_ended was.state view.ended e)) h.ended alive)
 
 -- the bytes that a place gave in the whole run are those that its lines tell of
-pub may_show : (first last : InView) (taken : List ℕ) (given : List (List ℕ)) (channel : Channel) (input : ClientInput) → ChannelStands first last taken given channel
-    → MayBeInput first last taken (more_by last.state (lines_view channel.lines).ended) input → MayShow (lines_view channel.lines) taken input
-may_show first last taken given channel input h may = record {
+pub may_show : (first last : InView) (read : List ℕ) (offered : List (List ℕ)) (channel : Channel) (input : ClientInput) → ChannelStands first last read offered channel
+    → MayBeInput first last read (more_by last.state (lines_view channel.lines).ended) input → MayShow (lines_view channel.lines) read input
+may_show first last read offered channel input h may = record {
   died = has_died first.state last.state;
-  text = cond (has_died first.state last.state) (text_of_dead may.given) may.given;
-  may = text_among first last taken may.given may.may.rest (given ++ h.beyond) (lines_view channel.lines) h.text may.may.parts may.may.over;
-  die = dies first last taken (given ++ h.beyond) (lines_view channel.lines) h.text;
+  text = cond (has_died first.state last.state) (text_of_dead may.offered) may.offered;
+  may = text_among first last read may.offered may.may.rest (offered ++ h.beyond) (lines_view channel.lines) h.text may.may.parts may.may.over;
+  die = dies first last read (offered ++ h.beyond) (lines_view channel.lines) h.text;
   is = may.is;
 }
 
 -- what was taken of it
-pub input_left : (first last : InView) (taken : List ℕ) (given : List (List ℕ)) (channel : Channel) → ChannelStands first last taken given channel
-    → InputLeft first last taken (more_by last.state (lines_view channel.lines).ended)
-input_left first last taken given channel h = record {
+pub input_left : (first last : InView) (read : List ℕ) (offered : List (List ℕ)) (channel : Channel) → ChannelStands first last read offered channel
+    → InputLeft first last read (more_by last.state (lines_view channel.lines).ended)
+input_left first last read offered channel h = record {
   gave = h.text.gave;
   live = more_live last.state (lines_view channel.lines).ended;
   over = λ none live. h.text.over (ended_live last.state (lines_view channel.lines).ended none live) live;
-  died = died_unended first last taken (given ++ h.beyond) (lines_view channel.lines) h.text;
+  died = died_unended first last read (offered ++ h.beyond) (lines_view channel.lines) h.text;
 }

@@ -23,23 +23,23 @@ use Rattle.bundle_command.proofs.Asked.{texts_many}
 use Rattle.bundle_command.proofs.AskedTurns.{none_first}
 use Rattle.bundle_command.proofs.Sizes.{bytes-none, bytes-push, end_first}
 
-pub stands_ready : (clients : List ℕ) (first now : BaysView) (given : List ℕ) (weaving : Weaving) → WeavingStands clients first now given weaving → WeavingReady clients first now given weaving
-stands_ready clients first now given weaving h = record { taken = h.taken; at = h.at; has = h.has; unsettled = h.unsettled; begun = (let b = h.begun in omega arith); told = λ hand. h.told }
+pub stands_ready : (clients : List ℕ) (first now : BaysView) (emitted : List ℕ) (weaving : Weaving) → WeavingStands clients first now emitted weaving → WeavingReady clients first now emitted weaving
+stands_ready clients first now emitted weaving h = record { read = h.read; at = h.at; has = h.has; unsettled = h.unsettled; begun = (let b = h.begun in omega arith); told = λ hand. h.told }
 
 pub sat_sum : (g k : ℕ) → saturated (saturated g + k) ≡ saturated (g + k)
 sat_sum g k = omega arith
 
 -- some bytes of the frame in hand
-pub gives : (clients : List ℕ) (first now : BaysView) (given bytes : List ℕ) (count : ℕ) (old new : Weaving) → old.maker.maker.hand ≢ [] → 1 ≤ count → count ≡ length bytes
-    → ((cids : List ℕ) (at : _) (given : List ℕ) → HasWoven cids at given old.maker → HasWoven cids at (given ++ bytes) new.maker)
-    → new.channels ≡ old.channels → new.end ≡ old.end → new.given ≡ saturated (old.given + count)
-    → WeavingReady clients first now given old → WeavingStands clients first now (given ++ bytes) new
-gives clients first now given bytes count old new hand some size woven channels end count_is h = record {
-  taken = h.taken;
+pub gives : (clients : List ℕ) (first now : BaysView) (emitted bytes : List ℕ) (count : ℕ) (old new : Weaving) → old.maker.maker.hand ≢ [] → 1 ≤ count → count ≡ length bytes
+    → ((cids : List ℕ) (at : _) (emitted : List ℕ) → HasWoven cids at emitted old.maker → HasWoven cids at (emitted ++ bytes) new.maker)
+    → new.channels ≡ old.channels → new.end ≡ old.end → new.emitted ≡ saturated (old.emitted + count)
+    → WeavingReady clients first now emitted old → WeavingStands clients first now (emitted ++ bytes) new
+gives clients first now emitted bytes count old new hand some size woven channels end count_is h = record {
+  read = h.read;
   at = h.at;
   has = record {
     list = h.has.list;
-    woven = woven clients h.at given h.has.woven;
+    woven = woven clients h.at emitted h.has.woven;
     going = h.has.going;
     many = ap (λ (cs : _). length cs.items) channels ∙ h.has.many;
     end = h.has.end;
@@ -47,19 +47,19 @@ gives clients first now given bytes count old new hand some size woven channels 
     each = λ c channel known. h.has.each c channel (ap (λ (cs : _). slice_get cs.items c) (sym channels) ∙ known);
     weave = λ inputs may. h.has.weave inputs (λ c channel known. may c channel (ap (λ (cs : _). slice_get cs.items c) channels ∙ known));
     only = h.has.only;
-    given_is = count_is ∙ ap (λ x. saturated (x + count)) h.has.given_is ∙ sat_sum (length given) count ∙ ap saturated (ap (λ k. length given + k) size ∙ sym (length-append given bytes));
+    given_is = count_is ∙ ap (λ x. saturated (x + count)) h.has.given_is ∙ sat_sum (length emitted) count ∙ ap saturated (ap (λ k. length emitted + k) size ∙ sym (length-append emitted bytes));
     end_is = end ∙ h.has.end_is;
   };
   unsettled = λ c channel known. h.unsettled c channel (ap (λ (cs : _). slice_get cs.items c) (sym channels) ∙ known);
-  begun = (let b = h.begun in let l = length-append given bytes in omega arith);
+  begun = (let b = h.begun in let l = length-append emitted bytes in omega arith);
   told = h.told hand;
 }
 
 -- before the first byte
-pub weaving_begins : (clients : List ℕ) (weaving : Weaving) → IsClientList clients → HasWoven clients woven_first [] weaving.maker → AreFresh clients weaving.channels.items → weaving.given ≡ 0 → weaving.end ≡ 0
+pub weaving_begins : (clients : List ℕ) (weaving : Weaving) → IsClientList clients → HasWoven clients woven_first [] weaving.maker → AreFresh clients weaving.channels.items → weaving.emitted ≡ 0 → weaving.end ≡ 0
     → (first : BaysView) → WeavingStands clients first first [] weaving
-weaving_begins clients weaving list woven fresh given end first = record {
-  taken = λ c. [];
+weaving_begins clients weaving list woven fresh emitted end first = record {
+  read = λ c. [];
   at = woven_first;
   has = record {
     list = list;
@@ -79,7 +79,7 @@ weaving_begins clients weaving list woven fresh given end first = record {
         };
     weave = λ inputs may. weave_starts (texts_of (length clients) inputs) (let many = texts_many (length clients) inputs in let some = some_cids clients list.cids in omega arith);
     only = record { client_in = λ n none. refl };
-    given_is = given;
+    given_is = emitted;
     end_is = end;
   };
   unsettled = λ c channel known more. not_more (sym (fresh.each c channel known).2 ∙ more);
@@ -95,8 +95,8 @@ weaving_begins clients weaving list woven fresh given end first = record {
 
 -- ---- what stands of some channels
 
-pub ready_on : (was is : BaysView) (old new : Weaving) → ((clients : List ℕ) (first : BaysView) (given : List ℕ) → WeavingReady clients first was given old → WeavingReady clients first is given new) → IsReady was old → IsReady is new
-ready_on was is old new goes h = record { clients = h.clients; first = h.first; given = h.given; ready = goes h.clients h.first h.given h.ready }
+pub ready_on : (was is : BaysView) (old new : Weaving) → ((clients : List ℕ) (first : BaysView) (emitted : List ℕ) → WeavingReady clients first was emitted old → WeavingReady clients first is emitted new) → IsReady was old → IsReady is new
+ready_on was is old new goes h = record { clients = h.clients; first = h.first; emitted = h.emitted; ready = goes h.clients h.first h.emitted h.ready }
 
 pub only_none : (bays : BaysView) → OnlyInputs bays bays
 only_none bays = record { line_in = refl; line_out = refl; client_out = refl }
@@ -119,6 +119,6 @@ given_some hand into count some room e = (let h = some_length hand some in omega
 pub given_long : (hand into out : List ℕ) (count : ℕ) → length out ≡ length into → count ≡ min (length hand) (length into) → count ≡ length (take count out)
 given_long hand into out count same e = sym (length-take-le count out (omega arith))
 
-pub four_rows : (given p1 p2 p3 p4 all : List ℕ) → ((p1 ++ p2) ++ p3) ++ p4 ≡ all → (((given ++ p1) ++ p2) ++ p3) ++ p4 ≡ given ++ all
-four_rows given p1 p2 p3 p4 all e =
-    ap (λ x. (x ++ p3) ++ p4) (append_assoc given p1 p2) ∙ ap (λ x. x ++ p4) (append_assoc given (p1 ++ p2) p3) ∙ append_assoc given ((p1 ++ p2) ++ p3) p4 ∙ ap (λ x. given ++ x) e
+pub four_rows : (emitted p1 p2 p3 p4 all : List ℕ) → ((p1 ++ p2) ++ p3) ++ p4 ≡ all → (((emitted ++ p1) ++ p2) ++ p3) ++ p4 ≡ emitted ++ all
+four_rows emitted p1 p2 p3 p4 all e =
+    ap (λ x. (x ++ p3) ++ p4) (append_assoc emitted p1 p2) ∙ ap (λ x. x ++ p4) (append_assoc emitted (p1 ++ p2) p3) ∙ append_assoc emitted ((p1 ++ p2) ++ p3) p4 ∙ ap (λ x. emitted ++ x) e

@@ -104,11 +104,11 @@ by_standing standing.Going e = absurd (cc)
 by_standing standing.Lost e = absurd (cc)
 by_standing standing.More e = absurd (cc)
 
-begun_idles : (cids : List ℕ) (frames : List WovenFrame) (given n : ℕ) → woven_bytes cids frames ≡ given → 1 ≤ n
-    → IsBegun cids (record { frames = frames ++ replicate ((n + 3) / 4) IdleFrame; others = 0 }) (given + n - 1)
-begun_idles cids frames given n all some = go ((n + 3) / 4) refl
+begun_idles : (cids : List ℕ) (frames : List WovenFrame) (emitted n : ℕ) → woven_bytes cids frames ≡ emitted → 1 ≤ n
+    → IsBegun cids (record { frames = frames ++ replicate ((n + 3) / 4) IdleFrame; others = 0 }) (emitted + n - 1)
+begun_idles cids frames emitted n all some = go ((n + 3) / 4) refl
   where
-    go : (k : ℕ) → (n + 3) / 4 ≡ k → IsBegun cids (record { frames = frames ++ replicate k IdleFrame; others = 0 }) (given + n - 1)
+    go : (k : ℕ) → (n + 3) / 4 ≡ k → IsBegun cids (record { frames = frames ++ replicate k IdleFrame; others = 0 }) (emitted + n - 1)
     go zero e = absurd (omega (arith, e, some))
     go (suc k) e =
         let front = frames ++ replicate k IdleFrame in
@@ -116,22 +116,22 @@ begun_idles cids frames given n all some = go ((n + 3) / 4) refl
         let size = length-append front (IdleFrame ∷ []) in
         let short : length (front ++ IdleFrame ∷ []) - 1 ≡ length front = omega (arith, size) in
         let same : take (length (front ++ IdleFrame ∷ []) - 1) (front ++ IdleFrame ∷ []) ≡ front = ap (λ k. take k (front ++ IdleFrame ∷ [])) short ∙ take-append_seam front (IdleFrame ∷ []) in
-        subst (λ fs. woven_bytes cids (take (length fs - 1) fs) ≤ given + n - 1) (sym (last_idle frames k))
-        (subst (λ fs. woven_bytes cids fs ≤ given + n - 1) (sym same) (omega (arith, bytes, all, e, some)))
+        subst (λ fs. woven_bytes cids (take (length fs - 1) fs) ≤ emitted + n - 1) (sym (last_idle frames k))
+        (subst (λ fs. woven_bytes cids fs ≤ emitted + n - 1) (sym same) (omega (arith, bytes, all, e, some)))
 
 pub all_over : (channels : List Channel) (i : ℕ) → length channels ≤ i → ((k : ℕ) (channel : Channel) → k < i → HasChannel channels k channel → is_over channel.standing ≡ true) → AreOver channels
 all_over channels i most before = record { each = λ k channel at. before k channel (let within = slice_get_within channels k channel at in omega (arith, within, most)) at }
 
-pub idles_stand : (clients : List ℕ) (first now : BaysView) (given bytes : List ℕ) (old new : Weaving) → old.maker.maker.hand ≡ [] → AreOver old.channels.items → 1 ≤ length bytes
-    → ((cids : List ℕ) (at : Woven) (given : List ℕ) → HasWoven cids at given old.maker → HasWoven cids (idles_on ((length bytes + 3) / 4) at) (given ++ bytes) new.maker)
-    → new.channels ≡ old.channels → new.end ≡ old.end → new.given ≡ saturated (old.given + length bytes)
-    → WeavingReady clients first now given old → WeavingStands clients first now (given ++ bytes) new
-idles_stand clients first now given bytes old new none over some woven channels end count_is h = record {
-  taken = h.taken;
+pub idles_stand : (clients : List ℕ) (first now : BaysView) (emitted bytes : List ℕ) (old new : Weaving) → old.maker.maker.hand ≡ [] → AreOver old.channels.items → 1 ≤ length bytes
+    → ((cids : List ℕ) (at : Woven) (emitted : List ℕ) → HasWoven cids at emitted old.maker → HasWoven cids (idles_on ((length bytes + 3) / 4) at) (emitted ++ bytes) new.maker)
+    → new.channels ≡ old.channels → new.end ≡ old.end → new.emitted ≡ saturated (old.emitted + length bytes)
+    → WeavingReady clients first now emitted old → WeavingStands clients first now (emitted ++ bytes) new
+idles_stand clients first now emitted bytes old new none over some woven channels end count_is h = record {
+  read = h.read;
   at = idles_on ((length bytes + 3) / 4) h.at;
   has = record {
     list = h.has.list;
-    woven = woven clients h.at given h.has.woven;
+    woven = woven clients h.at emitted h.has.woven;
     going = going_idles (length clients) ((length bytes + 3) / 4) h.at h.has.going;
     many = ap (λ (cs : _). length cs.items) channels ∙ h.has.many;
     end = h.has.end;
@@ -140,7 +140,7 @@ idles_stand clients first now given bytes old new none over some woven channels 
         let was = was_known c channel known in
         let at = h.has.each c channel was in
         record {
-          stands = subst (λ g. ChannelStands (place_of clients first c) (place_of clients now c) (h.taken c) g channel) (sym (given_idles c h.at.frames ((length bytes + 3) / 4))) at.stands;
+          stands = subst (λ g. ChannelStands (place_of clients first c) (place_of clients now c) (h.read c) g channel) (sym (given_idles c h.at.frames ((length bytes + 3) / 4))) at.stands;
           client = at.client;
           unasked = λ fresh. absurd (not_over (sym (over.each c channel was) ∙ ap is_over fresh));
           untouched = at.untouched;
@@ -148,12 +148,12 @@ idles_stand clients first now given bytes old new none over some woven channels 
         };
     weave = λ inputs may. weave_idles (texts_of (length clients) inputs) h.at ((length bytes + 3) / 4) (h.has.weave inputs (may_was inputs may)) (all_given inputs (may_was inputs may));
     only = h.has.only;
-    given_is = count_is ∙ ap (λ x. saturated (x + length bytes)) h.has.given_is ∙ sat_sum (length given) (length bytes) ∙ ap saturated (sym (length-append given bytes));
+    given_is = count_is ∙ ap (λ x. saturated (x + length bytes)) h.has.given_is ∙ sat_sum (length emitted) (length bytes) ∙ ap saturated (sym (length-append emitted bytes));
     end_is = end ∙ h.has.end_is;
   };
   unsettled = λ c channel known. h.unsettled c channel (was_known c channel known);
-  begun = subst (λ n. IsBegun clients (idles_on ((length bytes + 3) / 4) h.at) (n - 1)) (sym (length-append given bytes))
-      (begun_idles clients h.at.frames (length given) (length bytes) all_bytes some);
+  begun = subst (λ n. IsBegun clients (idles_on ((length bytes + 3) / 4) h.at) (n - 1)) (sym (length-append emitted bytes))
+      (begun_idles clients h.at.frames (length emitted) (length bytes) all_bytes some);
   told = refl;
 }
   where
@@ -163,11 +163,11 @@ idles_stand clients first now given bytes old new none over some woven channels 
     was_known : (c : ℕ) (channel : Channel) → HasChannel new.channels.items c channel → HasChannel old.channels.items c channel
     was_known c channel known = ap (λ (cs : _). slice_get cs.items c) (sym channels) ∙ known
 
-    may_was : (inputs : ℕ → ClientInput) → MayShowAll new.channels.items h.taken inputs → MayShowAll old.channels.items h.taken inputs
+    may_was : (inputs : ℕ → ClientInput) → MayShowAll new.channels.items h.read inputs → MayShowAll old.channels.items h.read inputs
     may_was inputs may c channel known = may c channel (ap (λ (cs : _). slice_get cs.items c) channels ∙ known)
 
-    all_bytes : woven_bytes clients h.at.frames ≡ length given
-    all_bytes = (let b = given_bytes clients h.at given old.maker h.has.woven in let n = ap length none in omega (arith, b, n))
+    all_bytes : woven_bytes clients h.at.frames ≡ length emitted
+    all_bytes = (let b = given_bytes clients h.at emitted old.maker h.has.woven in let n = ap length none in omega (arith, b, n))
 
     known_at : (c : ℕ) → c < length clients → (channel : Channel) × HasChannel old.channels.items c channel
     known_at c here = find old.channels.items h.has.many
@@ -176,13 +176,13 @@ idles_stand clients first now given bytes old new none over some woven channels 
         find [] many = absurd (omega (arith, many, here))
         find (x ∷ channels) many = (get_or (x ∷ channels) c x, slice_get-get_or (x ∷ channels) c x (omega (arith, many, here)))
 
-    all_given : (inputs : ℕ → ClientInput) → MayShowAll old.channels.items h.taken inputs → HaveGiven (texts_of (length clients) inputs) h.at.frames
+    all_given : (inputs : ℕ → ClientInput) → MayShowAll old.channels.items h.read inputs → HaveGiven (texts_of (length clients) inputs) h.at.frames
     all_given inputs may = record {
       each = λ c here.
           let inside : c < length clients = (let many = texts_many (length clients) inputs in omega (arith, many, here)) in
           let k = known_at c inside in
           let by = by_standing k.0.standing (over.each c k.0 k.1) in
           text_at (length clients) c inputs inside
-          ∙ (over_text (place_of clients first c) (place_of clients now c) (h.taken c) (packets_given c h.at.frames) k.0 (inputs c) (h.has.each c k.0 k.1).stands by.0 (may c k.0 k.1)).text
+          ∙ (over_text (place_of clients first c) (place_of clients now c) (h.read c) (packets_given c h.at.frames) k.0 (inputs c) (h.has.each c k.0 k.1).stands by.0 (may c k.0 k.1)).text
           ∙ ap (λ lost. record { packets = packets_given c h.at.frames; is_lost = lost }) by.1;
     }

@@ -17,8 +17,8 @@ use Rattle.bundle_command.specs.declared.channel.Standing.TheVariants as standin
 
 pub asked_at : {P K : Type 0} (p : source.Ghosts P) (k : sink.Ghosts K) (rack : Rack P K) (channels : List Channel) (index : ℕ) (channel next : Channel) (x y : InPlaceOf P) (answer : Standing)
     → HasChannel channels index channel → slice_get (client_ins rack) channel.client ≡ Some x
-    → ((first : InView) (taken : List ℕ) (given : List (List ℕ)) → ChannelStands first (in_view p x) taken given channel
-    → Answered first (in_view p y) taken (given ++ news answer (lines_view next.lines).packet) channel next)
+    → ((first : InView) (read : List ℕ) (offered : List (List ℕ)) → ChannelStands first (in_view p x) read offered channel
+    → Answered first (in_view p y) read (offered ++ news answer (lines_view next.lines).packet) channel next)
     → next.standing ≡ answer → (answer ≢ standing.Fresh) × (answer ≢ standing.More)
     → (answer ≡ standing.Going → (1 ≤ length (lines_view next.lines).packet) × (length (lines_view next.lines).packet ≤ 65523)) → next.client ≡ channel.client
     → ChannelAsked index (bays_view p k rack) channels (bays_view p k (with_client_in rack channel.client y)) (set channels index next) answer
@@ -37,7 +37,7 @@ asked_at p k rack channels index channel next x y answer known at answered stand
 
 pub settled_at : {P K : Type 0} (p : source.Ghosts P) (k : sink.Ghosts K) (rack : Rack P K) (channels : List Channel) (index : ℕ) (channel next : Channel) (x y : InPlaceOf P)
     → HasChannel channels index channel → slice_get (client_ins rack) channel.client ≡ Some x
-    → ((first : InView) (taken : List ℕ) (given : List (List ℕ)) → ChannelStands first (in_view p x) taken given channel → Answered first (in_view p y) taken given channel next)
+    → ((first : InView) (read : List ℕ) (offered : List (List ℕ)) → ChannelStands first (in_view p x) read offered channel → Answered first (in_view p y) read offered channel next)
     → next.standing ≢ standing.Going → (next.standing ≡ standing.Fresh → channel.standing ≡ standing.Fresh) → (channel.standing ≡ standing.Fresh → next.standing ≡ standing.Fresh)
     → (next.standing ≡ standing.Fresh → in_view p y ≡ in_view p x) → next.client ≡ channel.client
     → ChannelSettled index (bays_view p k rack) channels (bays_view p k (with_client_in rack channel.client y)) (set channels index next)

@@ -36,9 +36,9 @@ bytes-total cids [] = refl
 bytes-total cids (frame ∷ frames) = ap (λ n. woven_size cids frame + n) (bytes-total cids frames)
 
 -- what was given and what is in hand
-pub given_bytes : (cids : List ℕ) (at : Woven) (given : List ℕ) (maker : WeaverState) → HasWoven cids at given maker → length given + length maker.maker.hand ≡ woven_bytes cids at.frames
-given_bytes cids at given maker woven =
-    sym (length-append given maker.maker.hand) ∙ ap length woven.made.text ∙ length-text (map (made_of cids) at.frames) ∙ bytes-total cids at.frames
+pub given_bytes : (cids : List ℕ) (at : Woven) (emitted : List ℕ) (maker : WeaverState) → HasWoven cids at emitted maker → length emitted + length maker.maker.hand ≡ woven_bytes cids at.frames
+given_bytes cids at emitted maker woven =
+    sym (length-append emitted maker.maker.hand) ∙ ap length woven.made.text ∙ length-text (map (made_of cids) at.frames) ∙ bytes-total cids at.frames
 
 pub packet_bytes : (cids : List ℕ) (c : ℕ) (packet : List ℕ) → woven_size cids (PacketFrame c packet) ≡ length packet + 16
 packet_bytes cids c packet = (let e = packet_area_size (get_or cids c 0) packet in omega arith)

@@ -27,9 +27,9 @@ use Rattle.bundle_command.proofs.Ran.{Outcome, ran}
 
 -- ---- where only a line output changed
 
-same_weaving : (clients : List ℕ) (first was is : BaysView) (given : List ℕ) (weaving : Weaving) → is.client_in ≡ was.client_in → WeavingStands clients first was given weaving → WeavingStands clients first is given weaving
-same_weaving clients first was is given weaving same h = record {
-  taken = h.taken;
+same_weaving : (clients : List ℕ) (first was is : BaysView) (emitted : List ℕ) (weaving : Weaving) → is.client_in ≡ was.client_in → WeavingStands clients first was emitted weaving → WeavingStands clients first is emitted weaving
+same_weaving clients first was is emitted weaving same h = record {
+  read = h.read;
   at = h.at;
   has = record {
     list = h.has.list;
@@ -41,7 +41,7 @@ same_weaving clients first was is given weaving same h = record {
     each = λ c channel known.
         let a = h.has.each c channel known in
         record {
-          stands = subst (λ v. ChannelStands (place_of clients first c) v (h.taken c) (packets_given c h.at.frames) channel) (sym (ap (λ (l : List InView). get_or l (get_or clients c 0) no_input) same)) a.stands;
+          stands = subst (λ v. ChannelStands (place_of clients first c) v (h.read c) (packets_given c h.at.frames) channel) (sym (ap (λ (l : List InView). get_or l (get_or clients c 0) no_input) same)) a.stands;
           client = a.client;
           unasked = a.unasked;
           untouched = λ fresh. ap (λ (l : List InView). get_or l (get_or clients c 0) no_input) same ∙ a.untouched fresh;
@@ -57,12 +57,12 @@ same_weaving clients first was is given weaving same h = record {
   told = h.told;
 }
 
-same_frames : (clients : List ℕ) (first was is : BaysView) (gone : List ℕ) (framing : Framing) → is.client_in ≡ was.client_in → FramesStand clients first was gone framing → FramesStand clients first is gone framing
-same_frames clients first was is gone framing same h = record {
+same_frames : (clients : List ℕ) (first was is : BaysView) (due : List ℕ) (framing : Framing) → is.client_in ≡ was.client_in → FramesStand clients first was due framing → FramesStand clients first is due framing
+same_frames clients first was is due framing same h = record {
   has = record {
-    given = h.has.given;
+    emitted = h.has.emitted;
     count = h.has.count;
-    weaving = same_weaving clients first was is h.has.given framing.weaving same h.has.weaving;
+    weaving = same_weaving clients first was is h.has.emitted framing.weaving same h.has.weaving;
     made = h.has.made;
     frames = h.has.frames;
     trace = h.has.trace;
@@ -79,7 +79,7 @@ pub turns_begin : (clients : List ℕ) (parts : Bundling) → ((first : BaysView
     → (first : BaysView) → TurnsGone clients first first 0 parts
 unfolding parts_of
 turns_begin clients parts frames fed first = record {
-  gone = [];
+  due = [];
   framing = frames first;
   size = refl;
   fed = fed (line_out_at first 0);
@@ -93,19 +93,19 @@ completes : (turns : List (List ℕ)) (bytes : List ℕ) → length bytes ≡ 15
 completes turns bytes size = (let n = sent (lengths_of turns) (length turns) in let a : n / 1 ≡ n = omega arith in let b : (n + length bytes) / 1 ≡ n + length bytes = omega arith in omega (arith, a, b, size))
 
 pub turn_gone : (clients : List ℕ) (first was mid is : BaysView) (bytes : List ℕ) (t : ℕ) (old new : Bundling) → length bytes ≡ 15168 → OnlyInputs was mid → OnlyLineOut 0 mid is
-    → ((gone : List ℕ) → FramesStand clients first was gone old.framing → FramesStand clients first mid (gone ++ bytes) new.framing)
+    → ((due : List ℕ) → FramesStand clients first was due old.framing → FramesStand clients first mid (due ++ bytes) new.framing)
     → ((turns : List (List ℕ)) → FeedStands first_slot (line_out_at first 0) (line_out_at mid 0) turns old.feed → Completes first_slot turns bytes
     → FeedStands first_slot (line_out_at first 0) (line_out_at is 0) (turns ++ bytes ∷ []) new.feed)
     → TurnsGone clients first was t old → TurnsGone clients first is (t + 1) new
 turn_gone clients first was mid is bytes t old new size inputs output frames feeds h =
-    let framed = frames h.gone h.framing in
+    let framed = frames h.due h.framing in
     let out : line_out_at mid 0 ≡ line_out_at was 0 = ap (λ (l : List OutView). line_out_at (record mid { line_out = l }) 0) inputs.line_out in
     record {
-      gone = h.gone ++ bytes;
-      framing = same_frames clients first mid is (h.gone ++ bytes) new.framing output.client_in framed;
-      size = (let l = length-append h.gone bytes in let s = h.size in omega arith);
-      fed = subst (λ ts. FeedStands first_slot (line_out_at first 0) (line_out_at is 0) ts new.feed) (sym (parts_more h.gone bytes t h.size size))
-          (feeds (parts_of h.gone t) (subst (λ v. FeedStands first_slot (line_out_at first 0) v (parts_of h.gone t) old.feed) (sym out) h.fed) (completes (parts_of h.gone t) bytes size));
+      due = h.due ++ bytes;
+      framing = same_frames clients first mid is (h.due ++ bytes) new.framing output.client_in framed;
+      size = (let l = length-append h.due bytes in let s = h.size in omega arith);
+      fed = subst (λ ts. FeedStands first_slot (line_out_at first 0) (line_out_at is 0) ts new.feed) (sym (parts_more h.due bytes t h.size size))
+          (feeds (parts_of h.due t) (subst (λ v. FeedStands first_slot (line_out_at first 0) v (parts_of h.due t) old.feed) (sym out) h.fed) (completes (parts_of h.due t) bytes size));
       alone = record {
         line_in = output.line_in ∙ inputs.line_in ∙ h.alone.line_in;
         line_out = λ b other. output.line_out b other ∙ ap (λ (l : List OutView). line_out_at (record mid { line_out = l }) b) inputs.line_out ∙ h.alone.line_out b other;
@@ -118,26 +118,26 @@ pub can_turn_on : (was is : BaysView) (old new : Bundling) → ((clients : List 
 can_turn_on was is old new goes h = record { clients = h.clients; first = h.first; t = h.t + 1; ready = goes h.clients h.first h.t h.ready }
 
 pub ready_frames : (now : BaysView) (parts : Bundling) → CanTurn now parts → AreReady now parts.framing
-ready_frames now parts h = record { clients = h.clients; first = h.first; gone = h.ready.gone; ready = h.ready.framing.has }
+ready_frames now parts h = record { clients = h.clients; first = h.first; due = h.ready.due; ready = h.ready.framing.has }
 
 -- ---- behind the last turn
 
 pub settled_places : (was is : BaysView) (parts : Bundling) (weaving : Weaving) → (r : CanTurn was parts)
-    → ((clients : List ℕ) (first : BaysView) (given : List ℕ) → WeavingStands clients first was given parts.framing.weaving → IsSettled (length clients) clients first is given weaving)
+    → ((clients : List ℕ) (first : BaysView) (emitted : List ℕ) → WeavingStands clients first was emitted parts.framing.weaving → IsSettled (length clients) clients first is emitted weaving)
     → (c : ℕ) (channel : Channel) → HasChannel weaving.channels.items c channel → channel.client < 16
 settled_places was is parts weaving r settles =
     let has = r.ready.framing.has in
-    place_low (length r.clients) r.clients r.first is has.given weaving (settles r.clients r.first has.given has.weaving)
+    place_low (length r.clients) r.clients r.first is has.emitted weaving (settles r.clients r.first has.emitted has.weaving)
 
 pub finishes : (clients : List ℕ) (first was is : BaysView) (report told : SinkView) (turns : ℕ) (parts : Bundling) (weaving : Weaving) (ended : Ended) → 1 ≤ turns → turns ≤ 16384 → OnlyInputs was is
-    → ((given : List ℕ) → WeavingStands clients first was given parts.framing.weaving → IsSettled (length clients) clients first is given weaving)
+    → ((emitted : List ℕ) → WeavingStands clients first was emitted parts.framing.weaving → IsSettled (length clients) clients first is emitted weaving)
     → Outcome weaving turns is report told ended → TurnsGone clients first was turns parts → BundleRan clients turns first is report told ended × OnlyBundled clients first is
 finishes clients first was is report told turns parts weaving ended some few inputs settles outcome h =
     let has = h.framing.has in
-    let settled = settles has.given has.weaving in
+    let settled = settles has.emitted has.weaving in
     let out : line_out_at is 0 ≡ line_out_at was 0 = ap (λ (l : List OutView). line_out_at (record is { line_out = l }) 0) inputs.line_out in (
-      ran clients turns first is report told h.gone (left_of parts.framing) has.given has.count weaving parts.feed ended some few settled has.made.size has.frames h.framing.part h.size
-          (subst (λ v. FeedStands first_slot (line_out_at first 0) v (parts_of h.gone turns) parts.feed) (sym out) h.fed) outcome,
+      ran clients turns first is report told h.due (left_of parts.framing) has.emitted has.count weaving parts.feed ended some few settled has.made.size has.frames h.framing.part h.size
+          (subst (λ v. FeedStands first_slot (line_out_at first 0) v (parts_of h.due turns) parts.feed) (sym out) h.fed) outcome,
       record {
         line_in = inputs.line_in ∙ h.alone.line_in;
         line_out = λ b other. ap (λ (l : List OutView). line_out_at (record is { line_out = l }) b) inputs.line_out ∙ h.alone.line_out b other;

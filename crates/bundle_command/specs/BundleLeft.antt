@@ -27,22 +27,22 @@ IsCut clients last = ((c : ℕ) × (c < length clients) × ((place_of clients la
     ⊎ ((line_out_at last 0).state ≡ Dead)
 
 -- what a client's input may turn out to be, of which these bytes were taken
-pub record MayBeInput (first last : InView) (taken : List ℕ) (more : Bool) (input : ClientInput) : Type 0 where
-  pub given : List ℕ
-  pub may : MayHave more taken given
-  pub is : input ≡ input_given (has_died first.state last.state) given
+pub record MayBeInput (first last : InView) (read : List ℕ) (more : Bool) (input : ClientInput) : Type 0 where
+  pub available : List ℕ
+  pub may : MayHave more read available
+  pub is : input ≡ input_given (has_died first.state last.state) available
 
 -- What was taken of an input tells what stands behind so many packets: nothing more may come of it, or it has a bad
 -- line, or one packet more.
-abbrev pub TellsBehind : (packets : ℕ) → (more : Bool) → (taken : List ℕ) → Type 0
-TellsBehind packets more taken = (more ≡ false) ⊎ (shows_bad taken ≡ true)
-    ⊎ (packets < length (packets_of (full_lines taken)).packets)
+abbrev pub TellsBehind : (packets : ℕ) → (more : Bool) → (read : List ℕ) → Type 0
+TellsBehind packets more read = (more ≡ false) ⊎ (shows_bad read ≡ true)
+    ⊎ (packets < length (packets_of (full_lines read)).packets)
 
 -- A client of which so many packets are begun: where its channel is asked in the turns it was asked once more behind
 -- them, until what stands behind these packets is known; where it is not, its place is as it was.
-pub record WasAsked (Asked : Type 0) (packets : ℕ) (more : Bool) (first last : InView) (taken : List ℕ) : Type 0 where
-  pub behind : Asked → TellsBehind packets more taken
-  pub untouched : (Asked → ⊥) → (last ≡ first) × (taken ≡ [])
+pub record WasAsked (Asked : Type 0) (packets : ℕ) (more : Bool) (first last : InView) (read : List ℕ) : Type 0 where
+  pub behind : Asked → TellsBehind packets more read
+  pub untouched : (Asked → ⊥) → (last ≡ first) × (read ≡ [])
 
 -- all frames of these turns were due to the line output
 pub record OutputDue (own : List (List ℕ)) (count : ℕ) (first last : OutView) : Type 0 where
@@ -52,26 +52,26 @@ pub record OutputDue (own : List (List ℕ)) (count : ℕ) (first last : OutView
 
 -- the report got this text; where it failed a part of it, from the front, and not all
 abbrev pub Tells : Ended → SinkView → List ℕ → SinkView → Type 0
-Tells ReportFault first text last = (went : ℕ) × (went < length text) × SinkGot first (take went text) last
+Tells ReportFault first text last = (written : ℕ) × (written < length text) × SinkGot first (take written text) last
 Tells Memory first text last = ⊥
 Tells ended first text last = SinkGot first text last
 
 -- what is left where the clients' inputs are these
 pub record LeftOf (clients : List ℕ) (turns : ℕ) (first last : BaysView) (report told : SinkView) (ended : Ended)
-    (taken : ℕ → List ℕ) (more : ℕ → Bool) (inputs : ℕ → ClientInput) : Type 0 where
+    (read : ℕ → List ℕ) (more : ℕ → Bool) (inputs : ℕ → ClientInput) : Type 0 where
   pub output : OutputDue (channel_turns clients (texts_of (length clients) inputs) turns) turns (line_out_at first 0)
       (line_out_at last 0)
   pub tells : Tells ended report (lines_told clients (texts_of (length clients) inputs) turns
       (λ c. (place_of clients last c).state) (length clients)) told
   -- of each text no block was read that was not needed for one packet more than are begun
-  pub read : (c : ℕ) → c < length clients
+  pub needed : (c : ℕ) → c < length clients
       → (short : Bool) × ReadAsNeeded short (length (begun_of clients (texts_of (length clients) inputs) turns c) + 1)
-      (taken c)
+      (read c)
   -- and each whose channel is asked was asked for the one behind, and no other
   pub asked : (c : ℕ) → c < length clients
       → WasAsked (IsAskedWithin clients (texts_of (length clients) inputs) turns c)
       (length (begun_of clients (texts_of (length clients) inputs) turns c)) (more c)
-      (place_of clients first c) (place_of clients last c) (taken c)
+      (place_of clients first c) (place_of clients last c) (read c)
   pub cut : ended ≢ ReportFault → (ended ≡ Cut) ↔ IsCut clients last
   pub unfinished : ended ≢ ReportFault → (ended ≡ Unfinished) ↔
       ((IsCut clients last → ⊥) × (IsFinished clients turns inputs → ⊥))
@@ -80,13 +80,13 @@ pub record LeftOf (clients : List ℕ) (turns : ℕ) (first last : BaysView) (re
 -- left.
 pub record BundleRan (clients : List ℕ) (turns : ℕ) (first last : BaysView) (report told : SinkView)
     (ended : Ended) : Type 0 where
-  pub taken : ℕ → List ℕ
+  pub read : ℕ → List ℕ
   pub more : ℕ → Bool
   pub client_in : (c : ℕ) → c < length clients
-      → InputLeft (place_of clients first c) (place_of clients last c) (taken c) (more c)
+      → InputLeft (place_of clients first c) (place_of clients last c) (read c) (more c)
   pub left : (inputs : ℕ → ClientInput) → ((c : ℕ) → c < length clients
-      → MayBeInput (place_of clients first c) (place_of clients last c) (taken c) (more c) (inputs c))
-      → LeftOf clients turns first last report told ended taken more inputs
+      → MayBeInput (place_of clients first c) (place_of clients last c) (read c) (more c) (inputs c))
+      → LeftOf clients turns first last report told ended read more inputs
 
 -- all other places are as they were
 pub record OnlyBundled (clients : List ℕ) (first last : BaysView) : Type 0 where

@@ -60,10 +60,10 @@ impl Channel {
     /// nothing is read.
     pub(crate) fn next<I: Source>(&mut self, place: &mut InPlaceOf<I>) -> Standing
         requires open { self.old.standing ≢ Standing.More }
-        ensures answered { (first : InView) (taken : List ℕ) (given : List (List ℕ))
-            → ChannelStands first (in_view I.Source place.old) taken given self.old
-            → Answered first (in_view I.Source place.new) taken
-            (given ++ news result (lines_view self.new.lines).packet) self.old self.new }
+        ensures answered { (first : InView) (read : List ℕ) (offered : List (List ℕ))
+            → ChannelStands first (in_view I.Source place.old) read offered self.old
+            → Answered first (in_view I.Source place.new) read
+            (offered ++ news result (lines_view self.new.lines).packet) self.old self.new }
         ensures answer { self.new.standing ≡ result }
         ensures closed { (result ≢ Standing.Fresh) × (result ≢ Standing.More) }
         ensures packet { result ≡ Standing.Going → (1 ≤ length (lines_view self.new.lines).packet)
@@ -80,10 +80,10 @@ impl Channel {
     // Asks for the next packet of its text.
     fn take<I: Source>(&mut self, place: &mut InPlaceOf<I>) -> Standing
         requires open { (self.old.standing ≡ Standing.Fresh) ⊎ (self.old.standing ≡ Standing.Going) }
-        ensures answered { (first : InView) (taken : List ℕ) (given : List (List ℕ))
-            → ChannelStands first (in_view I.Source place.old) taken given self.old
-            → Answered first (in_view I.Source place.new) taken
-            (given ++ news result (lines_view self.new.lines).packet) self.old self.new }
+        ensures answered { (first : InView) (read : List ℕ) (offered : List (List ℕ))
+            → ChannelStands first (in_view I.Source place.old) read offered self.old
+            → Answered first (in_view I.Source place.new) read
+            (offered ++ news result (lines_view self.new.lines).packet) self.old self.new }
         ensures answer { self.new.standing ≡ result }
         ensures closed { (result ≢ Standing.Fresh) × (result ≢ Standing.More) }
         ensures packet { result ≡ Standing.Going → (1 ≤ length (lines_view self.new.lines).packet)
@@ -105,9 +105,9 @@ impl Channel {
 
     /// Behind the last turn: where a packet was its last answer it is asked once more, and gives no other.
     pub(crate) fn settle<I: Source>(&mut self, place: &mut InPlaceOf<I>)
-        ensures settled { (first : InView) (taken : List ℕ) (given : List (List ℕ))
-            → ChannelStands first (in_view I.Source place.old) taken given self.old
-            → Answered first (in_view I.Source place.new) taken given self.old self.new }
+        ensures settled { (first : InView) (read : List ℕ) (offered : List (List ℕ))
+            → ChannelStands first (in_view I.Source place.old) read offered self.old
+            → Answered first (in_view I.Source place.new) read offered self.old self.new }
         ensures over { self.new.standing ≢ Standing.Going }
         ensures stays { self.old.standing ≡ Standing.Fresh → self.new.standing ≡ Standing.Fresh }
         ensures still { self.new.standing ≡ Standing.Fresh → in_view I.Source place.new ≡ in_view I.Source place.old }

@@ -34,9 +34,9 @@ impl Framing {
     pub(crate) fn fill<I: Source, O: Sink>(&mut self, bays: &mut Rack<I, O>, into: &mut [u8])
         requires ready { AreReady (bays_view I.Source O.Sink bays.old) self.old }
         ensures size { length into.new ≡ length into.old }
-        ensures stands { (clients : List ℕ) (first : BaysView) (gone : List ℕ)
-            → FramesStand clients first (bays_view I.Source O.Sink bays.old) gone self.old
-            → FramesStand clients first (bays_view I.Source O.Sink bays.new) (gone ++ into.new) self.new }
+        ensures stands { (clients : List ℕ) (first : BaysView) (due : List ℕ)
+            → FramesStand clients first (bays_view I.Source O.Sink bays.old) due self.old
+            → FramesStand clients first (bays_view I.Source O.Sink bays.new) (due ++ into.new) self.new }
         ensures alone { OnlyInputs (bays_view I.Source O.Sink bays.old) (bays_view I.Source O.Sink bays.new) }
     {
         let mut done = 0;
@@ -52,9 +52,9 @@ impl Framing {
         ensures some { 1 ≤ result }
         ensures within { result ≤ length into.old }
         ensures size { length into.new ≡ length into.old }
-        ensures stands { (clients : List ℕ) (first : BaysView) (gone : List ℕ)
-            → FramesHave clients first (bays_view I.Source O.Sink bays.old) gone self.old
-            → FramesStand clients first (bays_view I.Source O.Sink bays.new) (gone ++ take result into.new) self.new }
+        ensures stands { (clients : List ℕ) (first : BaysView) (due : List ℕ)
+            → FramesHave clients first (bays_view I.Source O.Sink bays.old) due self.old
+            → FramesStand clients first (bays_view I.Source O.Sink bays.new) (due ++ take result into.new) self.new }
         ensures alone { OnlyInputs (bays_view I.Source O.Sink bays.old) (bays_view I.Source O.Sink bays.new) }
     {
         self.have_frame(bays);
@@ -64,9 +64,9 @@ impl Framing {
     // Makes the next frame where the one in hand is gone.
     fn have_frame<I: Source, O: Sink>(&mut self, bays: &mut Rack<I, O>)
         requires ready { AreReady (bays_view I.Source O.Sink bays.old) self.old }
-        ensures stands { (clients : List ℕ) (first : BaysView) (gone : List ℕ)
-            → FramesHave clients first (bays_view I.Source O.Sink bays.old) gone self.old
-            → FramesHave clients first (bays_view I.Source O.Sink bays.new) gone self.new }
+        ensures stands { (clients : List ℕ) (first : BaysView) (due : List ℕ)
+            → FramesHave clients first (bays_view I.Source O.Sink bays.old) due self.old
+            → FramesHave clients first (bays_view I.Source O.Sink bays.new) due self.new }
         ensures some { self.new.at < CLIENT_FRAME_BYTES }
         ensures alone { OnlyInputs (bays_view I.Source O.Sink bays.old) (bays_view I.Source O.Sink bays.new) }
     {
@@ -79,10 +79,10 @@ impl Framing {
     // Makes the next frame.
     fn make_frame<I: Source, O: Sink>(&mut self, bays: &mut Rack<I, O>)
         requires ready { AreReady (bays_view I.Source O.Sink bays.old) self.old }
-        requires gone { self.old.at ≡ CLIENT_FRAME_BYTES }
-        ensures stands { (clients : List ℕ) (first : BaysView) (gone : List ℕ)
-            → FramesHave clients first (bays_view I.Source O.Sink bays.old) gone self.old
-            → FramesHave clients first (bays_view I.Source O.Sink bays.new) gone self.new }
+        requires due { self.old.at ≡ CLIENT_FRAME_BYTES }
+        ensures stands { (clients : List ℕ) (first : BaysView) (due : List ℕ)
+            → FramesHave clients first (bays_view I.Source O.Sink bays.old) due self.old
+            → FramesHave clients first (bays_view I.Source O.Sink bays.new) due self.new }
         ensures start { self.new.at ≡ 0 }
         ensures alone { OnlyInputs (bays_view I.Source O.Sink bays.old) (bays_view I.Source O.Sink bays.new) }
     {

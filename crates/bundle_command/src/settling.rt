@@ -17,9 +17,9 @@ use tributary_line::{either, ended_by, is_dead_in, is_dead_out};
 /// Asks each channel once more whose last answer was a packet, in the order of the channels.
 pub(crate) fn settle<I: Source, O: Sink>(weaving: &mut Weaving, bays: &mut Rack<I, O>)
     requires stands { IsStanding (bays_view I.Source O.Sink bays.old) weaving.old }
-    ensures settled { (clients : List ℕ) (first : BaysView) (given : List ℕ)
-        → WeavingStands clients first (bays_view I.Source O.Sink bays.old) given weaving.old
-        → IsSettled (length clients) clients first (bays_view I.Source O.Sink bays.new) given weaving.new }
+    ensures settled { (clients : List ℕ) (first : BaysView) (emitted : List ℕ)
+        → WeavingStands clients first (bays_view I.Source O.Sink bays.old) emitted weaving.old
+        → IsSettled (length clients) clients first (bays_view I.Source O.Sink bays.new) emitted weaving.new }
     ensures alone { OnlyInputs (bays_view I.Source O.Sink bays.old) (bays_view I.Source O.Sink bays.new) }
 {
     for i in 0..weaving.channels.len() {

@@ -27,7 +27,7 @@ pub(crate) struct Weaving {
     pub(crate) channels: Vec<Channel>,
     pub(crate) maker: ChannelMaker,
     // Bytes that were given, and those up to the end of the last packet's frame.
-    pub(crate) given: u64,
+    pub(crate) emitted: u64,
     pub(crate) end: u64,
 }
 
@@ -42,7 +42,7 @@ impl Weaving {
         Ok(Weaving {
             channels,
             maker,
-            given: 0,
+            emitted: 0,
             end: 0,
         })
     }
@@ -55,10 +55,10 @@ impl Weaving {
     )
         requires ready { IsReady (bays_view I.Source O.Sink bays.old) self.old }
         ensures size { length (payload_of frame.new) ≡ CLIENT_PAYLOAD_BYTES }
-        ensures stands { (clients : List ℕ) (first : BaysView) (given : List ℕ)
-            → WeavingStands clients first (bays_view I.Source O.Sink bays.old) given self.old
+        ensures stands { (clients : List ℕ) (first : BaysView) (emitted : List ℕ)
+            → WeavingStands clients first (bays_view I.Source O.Sink bays.old) emitted self.old
             → WeavingStands clients first (bays_view I.Source O.Sink bays.new)
-            (given ++ payload_of frame.new) self.new }
+            (emitted ++ payload_of frame.new) self.new }
         ensures alone { OnlyInputs (bays_view I.Source O.Sink bays.old) (bays_view I.Source O.Sink bays.new) }
     {
         self.fill(bays, frame.payload_row_mut(1));
@@ -71,9 +71,9 @@ impl Weaving {
     fn fill<I: Source, O: Sink>(&mut self, bays: &mut Rack<I, O>, into: &mut [u8])
         requires ready { IsReady (bays_view I.Source O.Sink bays.old) self.old }
         ensures size { length into.new ≡ length into.old }
-        ensures stands { (clients : List ℕ) (first : BaysView) (given : List ℕ)
-            → WeavingStands clients first (bays_view I.Source O.Sink bays.old) given self.old
-            → WeavingStands clients first (bays_view I.Source O.Sink bays.new) (given ++ into.new) self.new }
+        ensures stands { (clients : List ℕ) (first : BaysView) (emitted : List ℕ)
+            → WeavingStands clients first (bays_view I.Source O.Sink bays.old) emitted self.old
+            → WeavingStands clients first (bays_view I.Source O.Sink bays.new) (emitted ++ into.new) self.new }
         ensures ready { IsReady (bays_view I.Source O.Sink bays.new) self.new }
         ensures alone { OnlyInputs (bays_view I.Source O.Sink bays.old) (bays_view I.Source O.Sink bays.new) }
     {
@@ -91,10 +91,10 @@ impl Weaving {
         ensures some { 1 ≤ result }
         ensures within { result ≤ length into.old }
         ensures size { length into.new ≡ length into.old }
-        ensures stands { (clients : List ℕ) (first : BaysView) (given : List ℕ)
-            → WeavingStands clients first (bays_view I.Source O.Sink bays.old) given self.old
+        ensures stands { (clients : List ℕ) (first : BaysView) (emitted : List ℕ)
+            → WeavingStands clients first (bays_view I.Source O.Sink bays.old) emitted self.old
             → WeavingStands clients first (bays_view I.Source O.Sink bays.new)
-            (given ++ take result into.new) self.new }
+            (emitted ++ take result into.new) self.new }
         ensures ready { IsReady (bays_view I.Source O.Sink bays.new) self.new }
         ensures alone { OnlyInputs (bays_view I.Source O.Sink bays.old) (bays_view I.Source O.Sink bays.new) }
     {
@@ -122,12 +122,12 @@ impl Weaving {
         requires room { 1 ≤ length into.old }
         ensures count { result ≡ length into.old }
         ensures size { length into.new ≡ length into.old }
-        ensures stands { (clients : List ℕ) (first now : BaysView) (given : List ℕ)
-            → WeavingReady clients first now given self.old
-            → WeavingStands clients first now (given ++ into.new) self.new }
+        ensures stands { (clients : List ℕ) (first now : BaysView) (emitted : List ℕ)
+            → WeavingReady clients first now emitted self.old
+            → WeavingStands clients first now (emitted ++ into.new) self.new }
     {
         self.maker.give_idle(into);
-        self.given = self.given.saturating_add(into.len() as u64);
+        self.emitted = self.emitted.saturating_add(into.len() as u64);
         into.len()
     }
 
@@ -138,16 +138,16 @@ impl Weaving {
         ensures some { 1 ≤ result }
         ensures within { result ≤ length into.old }
         ensures size { length into.new ≡ length into.old }
-        ensures stands { (clients : List ℕ) (first : BaysView) (given : List ℕ)
-            → WeavingStands clients first (bays_view I.Source O.Sink bays.old) given self.old
+        ensures stands { (clients : List ℕ) (first : BaysView) (emitted : List ℕ)
+            → WeavingStands clients first (bays_view I.Source O.Sink bays.old) emitted self.old
             → WeavingStands clients first (bays_view I.Source O.Sink bays.new)
-            (given ++ take result into.new) self.new }
+            (emitted ++ take result into.new) self.new }
         ensures ready { IsReady (bays_view I.Source O.Sink bays.new) self.new }
         ensures alone { OnlyInputs (bays_view I.Source O.Sink bays.old) (bays_view I.Source O.Sink bays.new) }
     {
         self.have_frame(bays);
         let count = self.maker.give_bytes(into);
-        self.given = self.given.saturating_add(count as u64);
+        self.emitted = self.emitted.saturating_add(count as u64);
         count
     }
 
@@ -155,9 +155,9 @@ impl Weaving {
     fn have_frame<I: Source, O: Sink>(&mut self, bays: &mut Rack<I, O>)
         requires ready { IsReady (bays_view I.Source O.Sink bays.old) self.old }
         ensures some { self.new.maker.maker.hand ≢ [] }
-        ensures stands { (clients : List ℕ) (first : BaysView) (given : List ℕ)
-            → WeavingReady clients first (bays_view I.Source O.Sink bays.old) given self.old
-            → WeavingReady clients first (bays_view I.Source O.Sink bays.new) given self.new }
+        ensures stands { (clients : List ℕ) (first : BaysView) (emitted : List ℕ)
+            → WeavingReady clients first (bays_view I.Source O.Sink bays.old) emitted self.old
+            → WeavingReady clients first (bays_view I.Source O.Sink bays.new) emitted self.new }
         ensures alone { OnlyInputs (bays_view I.Source O.Sink bays.old) (bays_view I.Source O.Sink bays.new) }
     {
         loop {
@@ -174,9 +174,9 @@ impl Weaving {
         requires idle { self.old.maker.maker.hand ≡ [] }
         requires within { index < length self.old.maker.cids }
         requires asked { IsAsked index self.old.maker }
-        ensures stands { (clients : List ℕ) (first : BaysView) (given : List ℕ)
-            → WeavingReady clients first (bays_view I.Source O.Sink bays.old) given self.old
-            → WeavingReady clients first (bays_view I.Source O.Sink bays.new) given self.new }
+        ensures stands { (clients : List ℕ) (first : BaysView) (emitted : List ℕ)
+            → WeavingReady clients first (bays_view I.Source O.Sink bays.old) emitted self.old
+            → WeavingReady clients first (bays_view I.Source O.Sink bays.new) emitted self.new }
         ensures round { GoesRound self.old.maker self.new.maker }
         ensures alone { OnlyInputs (bays_view I.Source O.Sink bays.old) (bays_view I.Source O.Sink bays.new) }
     {
@@ -215,7 +215,7 @@ impl Weaving {
         let packet = self.channels[index].packet();
         self.maker.give(packet);
         self.end = self
-            .given
+            .emitted
             .saturating_add(packet.len() as u64 + FRAME_OVERHEAD);
     }
 }

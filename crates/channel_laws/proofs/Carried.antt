@@ -42,4 +42,4 @@ unfolding packets_of
 text_carried text = fit_channels (packets_of text).packets (some_packets [] (lines_of text))
 
 pub inputs_are_carried : AreInputsCarried
-inputs_are_carried died given = text_carried (cond died (text_of_dead given) given)
+inputs_are_carried died available = text_carried (cond died (text_of_dead available) available)

@@ -23,24 +23,24 @@ use Rattle.tributary_line.specs.TributaryFile.{IsTributaryFile}
 use Rattle.tributary_line.proofs.FileTurns.{carries_its_turns, shows_nothing_behind}
 use Rattle.unbundle_command.proofs.Turns.{flat_more}
 
-past_views : (own : Tributary) (given : List ℕ) (n : ℕ) → past_of (view_at own given) 0 n ≡ views_until own given n
+past_views : (own : Tributary) (available : List ℕ) (n : ℕ) → past_of (view_at own available) 0 n ≡ views_until own available n
 unfolding views_until
-past_views own given zero = refl
-past_views own given (suc n) =
-    ap (λ past. view_at own given (0 + n) ∷ past) (past_views own given n) ∙ ap (λ k. view_at own given k ∷ views_until own given n) (let e : 0 + n ≡ n = omega arith in e)
+past_views own available zero = refl
+past_views own available (suc n) =
+    ap (λ past. view_at own available (0 + n) ∷ past) (past_views own available n) ∙ ap (λ k. view_at own available k ∷ views_until own available n) (let e : 0 + n ≡ n = omega arith in e)
 
-emission_of : (own : Tributary) (given : List ℕ) (t : ℕ) → emission own (signal_byte Ais) (past_of (view_at own given) 0 t) (view_at own given (0 + t)) ≡ emitted_at own given t
+emission_of : (own : Tributary) (available : List ℕ) (t : ℕ) → emission own (signal_byte Ais) (past_of (view_at own available) 0 t) (view_at own available (0 + t)) ≡ emitted_at own available t
 unfolding emitted_at
-emission_of own given t =
-    ap (λ past. emission own (signal_byte Ais) past (view_at own given (0 + t))) (past_views own given t)
-    ∙ ap (λ k. emission own (signal_byte Ais) (views_until own given t) (view_at own given k)) (let e : 0 + t ≡ t = omega arith in e)
+emission_of own available t =
+    ap (λ past. emission own (signal_byte Ais) past (view_at own available (0 + t))) (past_views own available t)
+    ∙ ap (λ k. emission own (signal_byte Ais) (views_until own available t) (view_at own available k)) (let e : 0 + t ≡ t = omega arith in e)
 
 -- what it emits in the first turns, joined
-joined_is : (own : Tributary) (given : List ℕ) (t : ℕ) → flat_map (emitted_at own given) (range_with_len 0 t) ≡ joined_back (emissions own (signal_byte Ais) (past_of (view_at own given) 0 t))
-joined_is own given zero = refl
-joined_is own given (suc t) =
-    flat_more (emitted_at own given) t ∙ ap (λ bytes. bytes ++ emitted_at own given t) (joined_is own given t)
-    ∙ ap (λ bytes. joined_back (emissions own (signal_byte Ais) (past_of (view_at own given) 0 t)) ++ bytes) (sym (emission_of own given t))
+joined_is : (own : Tributary) (available : List ℕ) (t : ℕ) → flat_map (emitted_at own available) (range_with_len 0 t) ≡ joined_back (emissions own (signal_byte Ais) (past_of (view_at own available) 0 t))
+joined_is own available zero = refl
+joined_is own available (suc t) =
+    flat_more (emitted_at own available) t ∙ ap (λ bytes. bytes ++ emitted_at own available t) (joined_is own available t)
+    ∙ ap (λ bytes. joined_back (emissions own (signal_byte Ais) (past_of (view_at own available) 0 t)) ++ bytes) (sym (emission_of own available t))
 
 -- In the first turns it is a front of the bytes that were put on it
 pub emits_of_file : (b : ℕ) (own : Tributary) (turns frames : List (List ℕ)) (u t : ℕ) → IsSent own → own.line_slots ≡ 8 → 1 ≤ own.port → IsTributaryFile b own turns (8 * (u + 1)) frames

@@ -27,7 +27,7 @@ out_of cids texts turns t c = packets_given c (woven_within cids (payload_whole 
 
 -- Each channel's packets are such as it can carry, whatever its client had to give.
 abbrev pub AreInputsCarried : Type 0
-AreInputsCarried = (died : Bool) (given : List ℕ) → AreCarried (channel_text (input_given died given))
+AreInputsCarried = (died : Bool) (available : List ℕ) → AreCarried (channel_text (input_given died available))
 
 -- Of the file on which channels go, what arrives until turn t is, in order, the packets and losses of these frames.
 -- The last such turn is that in which the file ends. Behind it the sink emits AIS.
@@ -46,7 +46,7 @@ ComesOut = (cids : List ℕ) (texts : List ChannelText) (turns t : ℕ) (was is 
     (report told : SinkView) (ended : Ended)
     → IsCidList cids → length texts ≡ length cids → All AreCarried texts
     → (due : OutputDue (channel_turns cids texts turns) turns was is)
-    → (ran : UnbundleRan t first last report told ended) → MayHave ran.more ran.taken (concat due.frames) → 1 ≤ turns
+    → (ran : UnbundleRan t first last report told ended) → MayHave ran.more ran.read (concat due.frames) → 1 ≤ turns
     → t ≤ turns + 1
     → (c : ℕ) → c < length cids → slice_index cids c < 16
     → IsSent (client_out_at first (slice_index cids c)) (hex_text (out_of cids texts turns t c))

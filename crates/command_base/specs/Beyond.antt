@@ -7,15 +7,15 @@ use Rattle.otn_ports.specs.declared.ended.Ended.{Ended}
 use Rattle.otn_ports.specs.declared.ended.Ended.TheVariants.{Done, Unfinished, Cut, ReportFault, Memory}
 
 -- the answer to one byte more
-abbrev pub ByteEnds : Ended → (taken : List ℕ) → (first now : InView) → Type 0
-ByteEnds Unfinished taken first now = (length taken ≡ 1) × (now.state ≡ first.state)
-ByteEnds Done taken first now = (taken ≡ []) × (now.state ≡ first.state) × HasEnded now.left now.ended
-ByteEnds Cut taken first now = (taken ≡ []) × (now.state ≡ Dead) × (now.ended ≡ first.ended)
-ByteEnds ReportFault taken first now = ⊥
-ByteEnds Memory taken first now = ⊥
+abbrev pub ByteEnds : Ended → (read : List ℕ) → (first now : InView) → Type 0
+ByteEnds Unfinished read first now = (length read ≡ 1) × (now.state ≡ first.state)
+ByteEnds Done read first now = (read ≡ []) × (now.state ≡ first.state) × HasEnded now.left now.ended
+ByteEnds Cut read first now = (read ≡ []) × (now.state ≡ Dead) × (now.ended ≡ first.ended)
+ByteEnds ReportFault read first now = ⊥
+ByteEnds Memory read first now = ⊥
 
 -- a line that was asked for one byte more
 pub record ByteRun (first now : InView) (ended : Ended) : Type 0 where
-  pub taken : List ℕ
-  pub gave : Gave first taken now
-  pub ends : ByteEnds ended taken first now
+  pub read : List ℕ
+  pub gave : Gave first read now
+  pub ends : ByteEnds ended read first now

@@ -38,5 +38,5 @@ pub record Stays (old new : Device) : Type 0 where
 -- No place but line input 0 has changed: all others are seen as they were. That one gave these bytes, or none, and dies
 -- only where its port's count of faults rose or stands at its end.
 pub record OnlyLine (old new : Device) : Type 0 where
-  pub line : (taken : List ℕ) × Gave (line_zero old) taken (line_zero new)
+  pub line : (read : List ℕ) × Gave (line_zero old) read (line_zero new)
   pub only : OnlyLineIn 0 old.bays new.bays

@@ -4,6 +4,6 @@ use Rattle.otn_ports.specs.Bytes.{after}
 
 -- a report gained a part of these bytes, from the front, and not all
 pub record GainsPart (old new : Option (List ℕ)) (bytes : List ℕ) : Type 0 where
-  pub went : ℕ
-  pub part : went < length bytes
-  pub gained : new ≡ after old (take went bytes)
+  pub written : ℕ
+  pub part : written < length bytes
+  pub gained : new ≡ after old (take written bytes)

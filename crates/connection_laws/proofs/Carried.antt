@@ -28,7 +28,7 @@ use Rattle.device_model.proofs.MadeTurns.{lock_at, has_its_multiframes}
 
 -- the frames of the multiframe of each turn
 abbrev pub turn_frames : Tributary → List ℕ → (t : ℕ) → Option (List Taken)
-turn_frames own given t = option_map (frames_of own.line_slots given) (multiframe own.line_slots (mfas_of given) t)
+turn_frames own available t = option_map (frames_of own.line_slots available) (multiframe own.line_slots (mfas_of available) t)
 
 -- in a turn of the connection these show what it got
 pub shown : (plan : Plan) (inputs : Inputs) (x : Connection) (b port u t : ℕ) (slots : LineSlots) (frames : List (List ℕ)) → GoesTo plan x b port slots → IsMadeTo plan inputs x b u frames
@@ -37,16 +37,16 @@ pub shown : (plan : Plan) (inputs : Inputs) (x : Connection) (b port u t : ℕ) 
     × ShowsTurn (tributary_of slots port) (got_by x (own_input inputs x) (own_turn x t + 1)) (own_turn x t) multiframe)
 shown plan inputs x b port u t slots frames goes made low high =
     let size = size_of (form_out plan b) in
-    let given = concat frames in
-    let members = frames_of size given (lock_at size t) in
+    let available = concat frames in
+    let members = frames_of size available (lock_at size t) in
     let same : slots_of slots.kind ≡ size = ap slots_of goes.end.kind in
     let stop = made.active in
     let start = goes.start in
     let enough : size * (t + 1) ≤ made.count = within size t u made.count high made.enough in (
       members,
       (
-        ap (λ s. option_map (frames_of s given) (multiframe s (mfas_of given) t)) same
-            ∙ ap (option_map (frames_of size given)) (has_its_multiframes plan inputs b made.count t frames made.file enough),
+        ap (λ s. option_map (frames_of s available) (multiframe s (mfas_of available) t)) same
+            ∙ ap (option_map (frames_of size available)) (has_its_multiframes plan inputs b made.count t frames made.file enough),
         shows_its_connections plan inputs b made.count t frames x port slots made.file enough
             (record { is_of = goes.is_of; to = goes.to; active = record { start = omega arith; stop = omega arith } }) goes.end,
       ),

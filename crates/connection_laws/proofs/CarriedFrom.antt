@@ -123,8 +123,8 @@ gets x h plan inputs b port u n slots frames goes has made high =
 
 -- ---- from a client
 
-frames_long : (sapi : List ℕ) (n : ℕ) (given : List ℕ) → length (take n (concat (client_frames sapi (frames_begun n) given))) ≡ n
-frames_long sapi n given = let all = joined_size sapi (frames_begun n) given in length-take-le n (concat (client_frames sapi (frames_begun n) given)) (omega arith)
+frames_long : (sapi : List ℕ) (n : ℕ) (available : List ℕ) → length (take n (concat (client_frames sapi (frames_begun n) available))) ≡ n
+frames_long sapi n available = let all = joined_size sapi (frames_begun n) available in length-take-le n (concat (client_frames sapi (frames_begun n) available)) (omega arith)
 
 pub stream_long : (sapi : List ℕ) (packets : List (List ℕ)) (fcs : Bool) (n : ℕ) → length (client_stream sapi packets fcs n) ≡ n
 unfolding client_stream

@@ -28,10 +28,10 @@ read_as_made hop next reads =
 read_on : (hop next : Hop) (bytes p : List ℕ) (u : ℕ) → ReadsOn hop next → Arrives (own_out hop) bytes p (views_out hop) (first_turn hop.x) (first_turn hop.x) (first_turn hop.x) u
     → Arrives (own_in next) bytes p (views_in next) (first_turn next.x) (first_turn next.x) (first_turn next.x) u
 read_on hop next bytes p u reads arrives =
-    let P : LineSlots → ℕ → List ℕ → ℕ → Type 0 = λ slots port given start. Arrives (tributary_of slots port) bytes p (view_at (tributary_of slots port) given) (start - 1) (start - 1) (start - 1) u in
+    let P : LineSlots → ℕ → List ℕ → ℕ → Type 0 = λ slots port available start. Arrives (tributary_of slots port) bytes p (view_at (tributary_of slots port) available) (start - 1) (start - 1) (start - 1) u in
     subst (λ slots. P slots next.port_in (next.inputs.line next.line_in) next.x.start) (sym reads.slots)
     (subst (λ port. P hop.slots_out port (next.inputs.line next.line_in) next.x.start) (sym reads.port)
-    (subst (λ given. P hop.slots_out hop.port_out given next.x.start) (sym (read_as_made hop next reads))
+    (subst (λ available. P hop.slots_out hop.port_out available next.x.start) (sym (read_as_made hop next reads))
     (subst (λ start. P hop.slots_out hop.port_out (concat hop.frames) start) (sym reads.start) arrives)))
 
 no_later : (hop next : Hop) → ReadsOn hop next → next.x.stop ≤ hop.x.stop

@@ -40,24 +40,24 @@ gfp_long packets fcs n = length-take-le n (text_of (stream_frames packets fcs n)
 
 -- ---- the client's frames
 
-one_more : (sapi : List ℕ) (k : ℕ) (given : List ℕ) → concat (client_frames sapi (suc k) given) ≡ concat (client_frames sapi k given) ++ next_frame sapi k (client_frames sapi k given) given
+one_more : (sapi : List ℕ) (k : ℕ) (available : List ℕ) → concat (client_frames sapi (suc k) available) ≡ concat (client_frames sapi k available) ++ next_frame sapi k (client_frames sapi k available) available
 unfolding client_frames
-one_more sapi k given = joined_next (client_frames sapi k given) (next_frame sapi k (client_frames sapi k given) given)
+one_more sapi k available = joined_next (client_frames sapi k available) (next_frame sapi k (client_frames sapi k available) available)
 
 -- the first of more frames
-front_frames : (sapi : List ℕ) (n j : ℕ) (given : List ℕ) → take (15296 * n) (concat (client_frames sapi (n + j) given)) ≡ concat (client_frames sapi n given)
-front_frames sapi n zero given =
-    let size = joined_size sapi n given in
-    ap (λ k. take (15296 * n) (concat (client_frames sapi k given))) (let e : n + 0 ≡ n = omega arith in e)
-    ∙ take_all (15296 * n) (concat (client_frames sapi n given)) (omega arith)
-front_frames sapi n (suc j) given =
-    let before = client_frames sapi (n + j) given in
-    let frame = next_frame sapi (n + j) before given in
-    let size = joined_size sapi (n + j) given in
-    ap (λ k. take (15296 * n) (concat (client_frames sapi k given))) (let e : n + suc j ≡ suc (n + j) = omega arith in e)
-    ∙ ap (take (15296 * n)) (one_more sapi (n + j) given)
+front_frames : (sapi : List ℕ) (n j : ℕ) (available : List ℕ) → take (15296 * n) (concat (client_frames sapi (n + j) available)) ≡ concat (client_frames sapi n available)
+front_frames sapi n zero available =
+    let size = joined_size sapi n available in
+    ap (λ k. take (15296 * n) (concat (client_frames sapi k available))) (let e : n + 0 ≡ n = omega arith in e)
+    ∙ take_all (15296 * n) (concat (client_frames sapi n available)) (omega arith)
+front_frames sapi n (suc j) available =
+    let before = client_frames sapi (n + j) available in
+    let frame = next_frame sapi (n + j) before available in
+    let size = joined_size sapi (n + j) available in
+    ap (λ k. take (15296 * n) (concat (client_frames sapi k available))) (let e : n + suc j ≡ suc (n + j) = omega arith in e)
+    ∙ ap (take (15296 * n)) (one_more sapi (n + j) available)
     ∙ take-append-le (15296 * n) (concat before) frame (omega arith)
-    ∙ front_frames sapi n j given
+    ∙ front_frames sapi n j available
 
 pub stream_front : (sapi : List ℕ) (packets : List (List ℕ)) (fcs : Bool) (n k : ℕ) → n ≤ k → take n (client_stream sapi packets fcs k) ≡ client_stream sapi packets fcs n
 unfolding client_stream

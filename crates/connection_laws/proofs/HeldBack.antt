@@ -146,10 +146,10 @@ kept own bytes p views s u i former pending c high e =
     ∙ up_after m said pending t.view (cm_in m p (suc i)) (cnd_in m p (suc i)) (heard own bytes p views s i c.slots t low).0 (heard own bytes p views s i c.slots t low).1
     ∙ ap (λ xs. up_at (said_now (cm_in m p (suc i)) (cnd_in m p (suc i)) (Some (cnd_in m p i))) (kept_of former pending xs)) (fresh own bytes p views s i c.slots t low)
 
-given : (own : Tributary) (ais : ℕ → ℕ) (bytes p : List ℕ) (views : ℕ → Option View) (s u i : ℕ) (former : Option ℕ) (pending : List ℕ) → Comes own bytes p views s u → s + suc i ≤ u
+available : (own : Tributary) (ais : ℕ → ℕ) (bytes p : List ℕ) (views : ℕ → Option View) (s u i : ℕ) (former : Option ℕ) (pending : List ℕ) → Comes own bytes p views s u → s + suc i ≤ u
     → machine_after own (past_of views s (suc i)) ≡ up_at (said_now (cm_in (length own.slots) p i) (cnd_in (length own.slots) p i) former) pending
     → emission own ais (past_of views s (suc i)) (views (s + suc i)) ≡ given_of former pending (slice_range bytes (whole_of (length own.slots) p i) (whole_of (length own.slots) p (suc i)))
-given own ais bytes p views s u i former pending c high e =
+available own ais bytes p views s u i former pending c high e =
     let m = length own.slots in
     let t = turn_at own bytes p views s u (suc i) c high in
     let low = (turn_at own bytes p views s u i c (omega arith)).fits in
@@ -217,7 +217,7 @@ emits_held own ais bytes p views s u i c high =
     let y = whole_of m p (suc (suc i)) in
     let up = no_less m p (suc i) c.slots in
     let sum = parts_of m p i in
-    given own ais bytes p views s u (suc i) (Some (cnd_in m p i)) (slice_range bytes w x) c high (held own bytes p views s u i c (omega arith))
+    available own ais bytes p views s u (suc i) (Some (cnd_in m p i)) (slice_range bytes w x) c high (held own bytes p views s u i c (omega arith))
     ∙ ap (λ ys. slice_range bytes w x ++ ys) (front_within bytes x y (cnd_in m p i) up)
     ∙ joined bytes w x (min (x + cnd_in m p i) y) (omega arith) (omega arith)
     ∙ ap (λ k. slice_range bytes w (min k y)) sum
@@ -229,7 +229,7 @@ emits_first own ais bytes p views s u c high =
     ∙ ap (gives (length own.slots) ais false (Some t.view)) (start_is own)
 
 emits_second : (own : Tributary) (ais : ℕ → ℕ) (bytes p : List ℕ) (views : ℕ → Option View) (s u : ℕ) → Comes own bytes p views s u → s + 1 ≤ u → emission own ais (past_of views s 1) (views (s + 1)) ≡ []
-emits_second own ais bytes p views s u c high = given own ais bytes p views s u 0 None [] c high (first_kept own bytes p views s u c (omega arith))
+emits_second own ais bytes p views s u c high = available own ais bytes p views s u 0 None [] c high (first_kept own bytes p views s u c (omega arith))
 
 left_up : (m : ℕ) (p : List ℕ) (i : ℕ) → 0 < m → left_of m p i ≤ left_of m p (suc i)
 left_up m p i h =

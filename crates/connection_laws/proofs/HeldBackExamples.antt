@@ -4,17 +4,17 @@ use Rattle.std.specs.Prelude.{◌≡◌, ℕ, List, [], ◌∷◌}
 use Rattle.std.proofs.Common.{refl}
 use Rattle.connection_laws.specs.HeldBack.{emitted_after}
 
-abbrev taken : List ℕ
-taken = 4 ∷ 0 ∷ 0 ∷ 5 ∷ 0 ∷ 0 ∷ []
+abbrev read : List ℕ
+read = 4 ∷ 0 ∷ 0 ∷ 5 ∷ 0 ∷ 0 ∷ []
 
-a_group_of_the_first : emitted_after 3 taken 3 ≡ 3
+a_group_of_the_first : emitted_after 3 read 3 ≡ 3
 a_group_of_the_first = refl
 
-nothing_more : emitted_after 3 taken 4 ≡ 3
+nothing_more : emitted_after 3 read 4 ≡ 3
 nothing_more = refl
 
-the_byte_over : emitted_after 3 taken 5 ≡ 4
+the_byte_over : emitted_after 3 read 5 ≡ 4
 the_byte_over = refl
 
-all_of_it : emitted_after 3 taken 6 ≡ 9
+all_of_it : emitted_after 3 read 6 ≡ 9
 all_of_it = refl

@@ -70,15 +70,15 @@ not_empty : (first now : State) (f g : ℕ) → Lives first now f g → now ≢ 
 not_empty first now f g (inl (same, calm)) some e = some (same ∙ e)
 not_empty first now f g (inr (live, dead, failed)) some e = empty_not_live (sym e ∙ live)
 
-counts_went : (s : State) (packets : List (List ℕ)) (went : List ℕ) → s ≢ Empty → counted_packets s packets went ≡ whole_lines went
-counts_went Empty packets went some = absurd (some refl)
-counts_went Live packets went some = refl
-counts_went Dead packets went some = refl
+counts_went : (s : State) (packets : List (List ℕ)) (sent : List ℕ) → s ≢ Empty → counted_packets s packets sent ≡ whole_lines sent
+counts_went Empty packets sent some = absurd (some refl)
+counts_went Live packets sent some = refl
+counts_went Dead packets sent some = refl
 
-counts_all : (s : State) (packets : List (List ℕ)) (went : List ℕ) → s ≡ Empty → counted_packets s packets went ≡ length packets
-counts_all Empty packets went e = refl
-counts_all Live packets went e = absurd (empty_not_live (sym e))
-counts_all Dead packets went e = absurd (cc)
+counts_all : (s : State) (packets : List (List ℕ)) (sent : List ℕ) → s ≡ Empty → counted_packets s packets sent ≡ length packets
+counts_all Empty packets sent e = refl
+counts_all Live packets sent e = absurd (empty_not_live (sym e))
+counts_all Dead packets sent e = absurd (cc)
 
 more_counted : (n m : ℕ) → min (saturated n + m) (2 ^ 64 - 1) ≡ saturated (n + m)
 more_counted n m = omega arith
@@ -95,15 +95,15 @@ was_empty s now f g (inr (live, dead, failed)) e = absurd (dead_not_empty (sym d
 
 -- ---- one packet more
 
-all_gone : (first now : OutView) (due : List ℕ) (h : IsSent first due now) → now.state ≡ Live → h.went ≡ due
-all_gone first now due h live = sym (append-nil h.went) ∙ ap (λ r. h.went ++ r) (sym (h.whole live)) ∙ h.parts
+all_gone : (first now : OutView) (due : List ℕ) (h : IsSent first due now) → now.state ≡ Live → h.written ≡ due
+all_gone first now due h live = sym (append-nil h.written) ∙ ap (λ r. h.written ++ r) (sym (h.whole live)) ∙ h.parts
 
 -- to a place that is not live nothing goes
 abbrev idle_text : (first now : OutView) (packets : List (List ℕ)) (packet : List ℕ) → now.state ≢ Live → IsSent first (hex_text packets) now → IsSent first (hex_text (packets ++ packet ∷ [])) now
 idle_text first now packets packet idle h = record {
-  went = h.went;
+  written = h.written;
   rest = h.rest ++ packet_line packet;
-  parts = sym (append_assoc h.went h.rest (packet_line packet)) ∙ ap (λ x. x ++ packet_line packet) h.parts ∙ sym (text-more packets packet);
+  parts = sym (append_assoc h.written h.rest (packet_line packet)) ∙ ap (λ x. x ++ packet_line packet) h.parts ∙ sym (text-more packets packet);
   gained = h.gained;
   whole = λ alive. absurd (idle alive);
 }
@@ -114,7 +114,7 @@ line_dead first now packets packet count dead h =
     let some = not_empty first.state now.state first.faults now.faults h.sent.gained.state (λ e. dead_not_empty (sym dead ∙ e)) in
     record {
       sent = idle_text first now packets packet (λ l. dead_not_live (sym dead ∙ l)) h.sent;
-      counted = h.counted ∙ ap saturated (counts_went first.state packets h.sent.went some ∙ sym (counts_went first.state (packets ++ packet ∷ []) h.sent.went some));
+      counted = h.counted ∙ ap saturated (counts_went first.state packets h.sent.written some ∙ sym (counts_went first.state (packets ++ packet ∷ []) h.sent.written some));
     }
 
 -- no line is held
@@ -180,19 +180,19 @@ live_flushed first old new packets held r n more live state gained writing whole
     let some = not_empty first.state old.state first.faults old.faults was.gained.state (λ e. live_not_empty (sym live ∙ e)) in
     record {
       sent = record {
-        went = was.went ++ part;
+        written = was.written ++ part;
         rest = drop n held.text;
         parts =
-            append_assoc was.went part (drop n held.text) ∙ ap (λ text. was.went ++ text) (take-append-drop n held.text ∙ h.text)
+            append_assoc was.written part (drop n held.text) ∙ ap (λ text. was.written ++ text) (take-append-drop n held.text ∙ h.text)
             ∙ ap (λ w. w ++ hex_text h.waiting) (all_gone first old (hex_text h.due) was live) ∙ sym (text-append h.due h.waiting) ∙ ap hex_text h.parts;
-        gained = gained_twice first old new was.went part was.gained gained;
+        gained = gained_twice first old new was.written part was.gained gained;
         whole = rest_none r new.state held.text n writing state;
       };
       counted =
-          ap (λ m. min (m + more) (2 ^ 64 - 1)) (h.sent.counted ∙ ap saturated (counts_went first.state h.due was.went some)) ∙ more_counted (whole_lines was.went) more
+          ap (λ m. min (m + more) (2 ^ 64 - 1)) (h.sent.counted ∙ ap saturated (counts_went first.state h.due was.written some)) ∙ more_counted (whole_lines was.written) more
           ∙ ap saturated (
-          ap (λ m. whole_lines was.went + m) (lines_gone r held.text h.waiting n held.count more writing whole lost h.text h.count)
-          ∙ sym (lines-append was.went part) ∙ sym (counts_went first.state packets (was.went ++ part) some)
+          ap (λ m. whole_lines was.written + m) (lines_gone r held.text h.waiting n held.count more writing whole lost h.text h.count)
+          ∙ sym (lines-append was.written part) ∙ sym (counts_went first.state packets (was.written ++ part) some)
           );
     }
 
@@ -203,15 +203,15 @@ empty_flushed first now packets held more empty e h =
     let none = was_empty first.state now.state first.faults now.faults was.gained.state empty in
     record {
       sent = record {
-        went = was.went;
+        written = was.written;
         rest = was.rest ++ hex_text h.waiting;
-        parts = sym (append_assoc was.went was.rest (hex_text h.waiting)) ∙ ap (λ x. x ++ hex_text h.waiting) was.parts ∙ sym (text-append h.due h.waiting) ∙ ap hex_text h.parts;
+        parts = sym (append_assoc was.written was.rest (hex_text h.waiting)) ∙ ap (λ x. x ++ hex_text h.waiting) was.parts ∙ sym (text-append h.due h.waiting) ∙ ap hex_text h.parts;
         gained = was.gained;
         whole = λ alive. absurd (empty_not_live (sym empty ∙ alive));
       };
       counted =
-          ap (λ m. min (m + more) (2 ^ 64 - 1)) (h.sent.counted ∙ ap saturated (counts_all first.state h.due was.went none)) ∙ more_counted (length h.due) more
-          ∙ ap saturated (ap (λ m. length h.due + m) (e ∙ h.count) ∙ sym (length-append h.due h.waiting) ∙ ap length h.parts ∙ sym (counts_all first.state packets was.went none));
+          ap (λ m. min (m + more) (2 ^ 64 - 1)) (h.sent.counted ∙ ap saturated (counts_all first.state h.due was.written none)) ∙ more_counted (length h.due) more
+          ∙ ap saturated (ap (λ m. length h.due + m) (e ∙ h.count) ∙ sym (length-append h.due h.waiting) ∙ ap length h.parts ∙ sym (counts_all first.state packets was.written none));
     }
 
 -- for a dead one nothing was held
@@ -220,7 +220,7 @@ dead_flushed first now packets held more dead e h =
     let none = h.dead dead in
     let same : h.due ≡ packets = sym (append-nil h.due) ∙ ap (λ ps. h.due ++ ps) (sym none) ∙ h.parts in
     let P : List (List ℕ) → Type 0 = λ ps. LinesSent first now ps (min (held.packets + more) (2 ^ 64 - 1)) in
-    let count = counted_packets first.state h.due h.sent.sent.went in
+    let count = counted_packets first.state h.due h.sent.sent.written in
     subst P same (record {
       sent = h.sent.sent;
       counted = ap (λ m. min (held.packets + m) (2 ^ 64 - 1)) (e ∙ h.count ∙ ap length none) ∙ ap (λ m. min (m + 0) (2 ^ 64 - 1)) h.sent.counted ∙ more_counted count 0 ∙ ap saturated (n_plus_0 count);

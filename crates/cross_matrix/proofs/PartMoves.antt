@@ -1,7 +1,7 @@
 -- The moves of the parts of a pipe.
 use Rattle.std.proofs.Common.{◌≡◌, ◌≢◌, ◌+◌, ◌-◌, ◌∙◌, ℕ, suc, Bool, false, List, [], ◌∷◌, ◌++◌, length, take, drop, slice_range, Option, arith, refl, sym, ap, subst, length-append}
 use Rattle.std.specs.Prelude.{option_map}
-use Rattle.maintenance_signals.specs.Given.{StreamPlace, HasGiven}
+use Rattle.maintenance_signals.specs.Given.{StreamPlace, HasEmitted}
 use Rattle.maintenance_signals.specs.declared.signal.Signal.{Signal}
 use Rattle.odu_client.specs.ClientFrames.{stream_part}
 use Rattle.odu_client.specs.ClientInput.{ClientInput, input_of, input_emits, emitted_before, pace_of, packets_begun, is_spent, bad_line}
@@ -76,7 +76,7 @@ line_ended a port slots x shows j whole frames old new step h e =
 
 -- what holds of the end and the input of a signal whose stream stands so, holds wherever its part stands
 pub on_signal : (P : FromEnd → OwnInput → Type 0) (from : FromEnd) (x : Connection) (input : OwnInput) (j : ℕ) (frames : List Taken) (ended : Bool) (old : StreamPlace)
-    → ((signal : Signal) → HasGiven signal (emitted_before x.pace j) old → P (from_end.Signal signal) of_signal) → TakingStands from x input j frames ended (taking.Signal old) → P from input
+    → ((signal : Signal) → HasEmitted signal (emitted_before x.pace j) old → P (from_end.Signal signal) of_signal) → TakingStands from x input j frames ended (taking.Signal old) → P from input
 on_signal P (from_end.Line a port slots) x (of_line shows) j frames ended old holds h = absurd h
 on_signal P (from_end.Line a port slots) x (of_client input) j frames ended old holds h = absurd h
 on_signal P (from_end.Line a port slots) x of_signal j frames ended old holds h = absurd h
@@ -87,13 +87,13 @@ on_signal P (from_end.Signal signal) x (of_line shows) j frames ended old holds 
 on_signal P (from_end.Signal signal) x (of_client input) j frames ended old holds h = absurd h
 on_signal P (from_end.Signal signal) x of_signal j frames ended old holds h = holds signal h
 
-pub signal_from : (from : FromEnd) (x : Connection) (count : ℕ) (old new : StreamPlace) → ((signal : Signal) (emitted : ℕ) → HasGiven signal emitted old → HasGiven signal (emitted + count) new)
+pub signal_from : (from : FromEnd) (x : Connection) (count : ℕ) (old new : StreamPlace) → ((signal : Signal) (emitted : ℕ) → HasEmitted signal emitted old → HasEmitted signal (emitted + count) new)
     → TakesFrom from x (taking.Signal old) → TakesFrom from x (taking.Signal new)
 signal_from (from_end.Line a port slots) x count old new step h = absurd h
 signal_from (from_end.Client n) x count old new step h = absurd h
 signal_from (from_end.Signal signal) x count old new step h = (h.0 + count, step signal h.0 h.1)
 
-pub signal_restarted : (from : FromEnd) (x : Connection) (input : OwnInput) (old new : StreamPlace) → ((signal : Signal) (emitted : ℕ) → HasGiven signal emitted old → HasGiven signal 0 new)
+pub signal_restarted : (from : FromEnd) (x : Connection) (input : OwnInput) (old new : StreamPlace) → ((signal : Signal) (emitted : ℕ) → HasEmitted signal emitted old → HasEmitted signal 0 new)
     → TakesFrom from x (taking.Signal old) → IsInputOf from input → TakingStands from x input 0 [] false (taking.Signal new)
 unfolding emitted_before
 signal_restarted (from_end.Line a port slots) x input old new step h of = absurd h
@@ -147,7 +147,7 @@ pub text_took : (x : Connection) (first was now : InView) (read : List ℕ) (n c
 text_took x first was now read n count old lines framer bytes pace size over fills h =
     let f = fills read h.emitted h.stands in
     record {
-      more = f.more_read;
+      more = f.further;
       stands = record {
         emitted = h.emitted ++ bytes;
         count = length-append h.emitted bytes ∙ ap (λ k. k + length bytes) h.count ∙ ap (λ k. emitted_before x.pace n + k) (size ∙ pace) ∙ sym (emitted_next x.pace n);
@@ -155,7 +155,7 @@ text_took x first was now read n count old lines framer bytes pace size over fil
         sapi = f.sapi ∙ h.sapi;
         fcs = f.fcs ∙ h.fcs;
       };
-      earlier = earlier f.more_read f.earlier;
+      earlier = earlier f.further f.earlier;
       emitted = λ input m. f.emitted m.text m.may
           ∙ same_part old.framer.sapi x.trace (packets_of m.text).packets input.packets old.framer.stream.fcs x.fcs (length h.emitted) (emitted_before x.pace n) (length bytes) (pace_of x.pace n)
           h.sapi (ap (λ (i : ClientInput). i.packets) (sym m.is)) h.fcs h.count (size ∙ pace)

@@ -23,9 +23,9 @@ use Rattle.cross_matrix.specs.declared.giving.GivingPart.TheVariants as giving
 use Rattle.cross_matrix.proofs.TurnTotals.{emits_is, got_next, got_size, arrived_next, arrived_none, in_all, turn_fits}
 
 -- the pipe of an entry with other parts of the same kind
-pub parts_of : (x : Connection) (old : PipeView) (part : TakingPart) (to : GivingPart) (came gives : List ℕ) → IsPipeOf x old → TakesFrom x.from x part → GivesTo x.to to
-    → IsPipeOf x (record { taking = part; giving = to; paces = old.paces; start = old.start; slots = old.slots; came = came; gives = gives })
-parts_of x old part to came gives h from other = record { taking = from; giving = other; paces = h.paces; start = h.start; slots = h.slots; given = h.given; fit = h.fit }
+pub parts_of : (x : Connection) (old : PipeView) (part : TakingPart) (to : GivingPart) (incoming outgoing : List ℕ) → IsPipeOf x old → TakesFrom x.from x part → GivesTo x.to to
+    → IsPipeOf x (record { taking = part; giving = to; paces = old.paces; start = old.start; slots = old.slots; incoming = incoming; outgoing = outgoing })
+parts_of x old part to incoming outgoing h from other = record { taking = from; giving = other; paces = h.paces; start = h.start; slots = h.slots; given = h.given; fit = h.fit }
 
 pub line_over : (x : Connection) (a port : ℕ) (slots : LineSlots) (shows : ℕ → Option View) (j filled : ℕ) (frames : List Taken) (old : PipeView) (part : TakingPart) (bytes : List ℕ)
     → x.from ≡ from_end.Line a port slots
@@ -33,14 +33,14 @@ pub line_over : (x : Connection) (a port : ℕ) (slots : LineSlots) (shows : ℕ
     → (TakingStands (from_end.Line a port slots) x (of_line shows) j frames false old.taking → bytes ≡ emits_by (from_end.Line a port slots) x (of_line shows) j)
     → (TakesFrom x.from x old.taking → TakesFrom x.from x part)
     → PipeStands x (of_line shows) j frames false filled old
-    → PipeStands x (of_line shows) j [] true filled (record { taking = part; giving = old.giving; paces = old.paces; start = old.start; slots = old.slots; came = bytes; gives = old.gives })
-line_over x a port slots shows j filled frames old part bytes e stands came from h =
+    → PipeStands x (of_line shows) j [] true filled (record { taking = part; giving = old.giving; paces = old.paces; start = old.start; slots = old.slots; incoming = bytes; outgoing = old.outgoing })
+line_over x a port slots shows j filled frames old part bytes e stands incoming from h =
     let before : TakingStands (from_end.Line a port slots) x (of_line shows) j frames false old.taking = subst (λ from. TakingStands from x (of_line shows) j frames false old.taking) e h.taking in
     record {
-      entry = parts_of x old part old.giving bytes old.gives h.entry (from h.entry.taking) h.entry.giving;
+      entry = parts_of x old part old.giving bytes old.outgoing h.entry (from h.entry.taking) h.entry.giving;
       taking = subst (λ from. TakingStands from x (of_line shows) j [] true part) (sym e) (stands before);
-      came = λ _. came before ∙ ap (λ from. emits_by from x (of_line shows) j) (sym e) ∙ sym (emits_is x (of_line shows) j);
-      gives = h.gives;
+      incoming = λ _. incoming before ∙ ap (λ from. emits_by from x (of_line shows) j) (sym e) ∙ sym (emits_is x (of_line shows) j);
+      outgoing = h.outgoing;
       giving = h.giving;
     }
 
@@ -54,16 +54,16 @@ own_pace x pipe turn j count h at e =
 
 pub client_took : (x : Connection) (first now : InView) (read : List ℕ) (j : ℕ) (old : PipeView) (part : TakingPart) (bytes : List ℕ) → IsOfClient old.taking → IsPipeOf x old
     → (TakesFrom x.from x old.taking → TakesFrom x.from x part) → TextTook x first now read j old.taking part bytes
-    → ClientTook x first now read j old (record { taking = part; giving = old.giving; paces = old.paces; start = old.start; slots = old.slots; came = bytes; gives = old.gives })
+    → ClientTook x first now read j old (record { taking = part; giving = old.giving; paces = old.paces; start = old.start; slots = old.slots; incoming = bytes; outgoing = old.outgoing })
 client_took x first now read j old part bytes client entry from took = record {
   more = took.more;
   stands = took.stands;
   earlier = took.earlier;
   pipe = λ input frames filled may h. record {
-    entry = parts_of x old part old.giving bytes old.gives entry (from entry.taking) entry.giving;
+    entry = parts_of x old part old.giving bytes old.outgoing entry (from entry.taking) entry.giving;
     taking = (given x.from old.taking part input frames refl client (from entry.taking) h.taking (λ i. took.emitted i) may).0;
-    came = λ _. (given x.from old.taking part input frames refl client (from entry.taking) h.taking (λ i. took.emitted i) may).1 ∙ sym (emits_is x input j);
-    gives = h.gives;
+    incoming = λ _. (given x.from old.taking part input frames refl client (from entry.taking) h.taking (λ i. took.emitted i) may).1 ∙ sym (emits_is x input j);
+    outgoing = h.outgoing;
     giving = h.giving;
   };
 }
@@ -142,22 +142,22 @@ client_too (to_end.Client n) (giving.Client receiver) new h h' client = tt
 
 -- ---- the end of a turn
 
-pub fenced : (x : Connection) (input : OwnInput) (j filled : ℕ) (ended : Bool) (old : PipeView) (part : TakingPart) (to : GivingPart) (came gives bytes : List ℕ)
+pub fenced : (x : Connection) (input : OwnInput) (j filled : ℕ) (ended : Bool) (old : PipeView) (part : TakingPart) (to : GivingPart) (incoming outgoing bytes : List ℕ)
     → (TakingStands x.from x input j [] ended old.taking → TakingStands x.from x input (suc j) [] false part)
-    → (TakingStands x.from x input j [] ended old.taking → (ended ≡ true → old.came ≡ emits_by x.from x input j) → bytes ≡ emits_by x.from x input j)
-    → (TakesFrom x.from x old.taking → TakesFrom x.from x part) → (GivesTo x.to old.giving → GivesTo x.to to) → (IsToClient to → gives ≡ bytes)
+    → (TakingStands x.from x input j [] ended old.taking → (ended ≡ true → old.incoming ≡ emits_by x.from x input j) → bytes ≡ emits_by x.from x input j)
+    → (TakesFrom x.from x old.taking → TakesFrom x.from x part) → (GivesTo x.to old.giving → GivesTo x.to to) → (IsToClient to → outgoing ≡ bytes)
     → ((own : Tributary) (turns : List (List ℕ)) (filled : ℕ) → OnSource old.giving (SourceStands own turns filled)
     → (in_all turns + length bytes) / length own.slots ≤ in_all turns / length own.slots + 15232 → OnSource to (SourceStands own (turns ++ bytes ∷ []) 0))
     → PipeStands x input j [] ended filled old
-    → PipeStands x input (suc j) [] false 0 (record { taking = part; giving = to; paces = old.paces; start = old.start; slots = old.slots; came = came; gives = gives })
-fenced x input j filled ended old part to came gives bytes stands emitted takes entry kept step h =
+    → PipeStands x input (suc j) [] false 0 (record { taking = part; giving = to; paces = old.paces; start = old.start; slots = old.slots; incoming = incoming; outgoing = outgoing })
+fenced x input j filled ended old part to incoming outgoing bytes stands emitted takes entry kept step h =
     let now : TakingStands x.from x input (suc j) [] false part = stands h.taking in
-    let is : bytes ≡ emits x input j = emitted h.taking (λ e. h.came e ∙ emits_is x input j) ∙ sym (emits_is x input j) in
+    let is : bytes ≡ emits x input j = emitted h.taking (λ e. h.incoming e ∙ emits_is x input j) ∙ sym (emits_is x input j) in
     record {
-      entry = parts_of x old part to came gives h.entry (takes h.entry.taking) (entry h.entry.giving);
+      entry = parts_of x old part to incoming outgoing h.entry (takes h.entry.taking) (entry h.entry.giving);
       taking = now;
-      came = λ e. cc;
-      gives = λ client. kept client ∙ is;
+      incoming = λ e. cc;
+      outgoing = λ client. kept client ∙ is;
       giving = begun_on x.to x input j filled old.giving to bytes is step
           (λ b port slots e. turn_fits x input j (length slots.list) part (h.entry.given b port slots e) h.entry.fit now)
           (entry h.entry.giving) h.giving;

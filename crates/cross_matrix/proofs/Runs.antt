@@ -183,7 +183,7 @@ pub stands_none : (first : OutView) (aligner : AlignerState) (reader : ReaderSta
 stands_none first aligner reader frames packets aligned read e none = record {
   aligned = aligned;
   read = same_read [] (last_run (runs_of (arrivals []))) reader (sym run-none) read;
-  sent = record { went = []; rest = []; parts = sym text-none; gained = gained_none first; whole = λ _. refl };
+  sent = record { written = []; rest = []; parts = sym text-none; gained = gained_none first; whole = λ _. refl };
   frames = e ∙ ap saturated (sym frames-none);
   packets = none ∙ sym (ap (λ ps. saturated (counted_packets first.state ps [])) packets-none ∙ ap saturated (none_counted first.state));
 }

@@ -1,6 +1,6 @@
 -- API: the parts of a connection: the one that takes from its input, and the one that gives to its output.
 use Rattle.std.specs.Prelude.{◌≡◌, ◌≢◌, ⊤, ℕ, suc, Bool, true, false, if◌then◌else◌, List, [], ◌∷◌, ◌++◌, length, IsSome}
-use Rattle.maintenance_signals.specs.Given.{HasGiven}
+use Rattle.maintenance_signals.specs.Given.{HasEmitted}
 use Rattle.odu_client.specs.ClientInput.{ClientInput, input_of, emitted_before}
 use Rattle.odu_client.specs.Framing.{ClientStands, MayDie}
 use Rattle.otn_ports.specs.Views.{InView, OutView}
@@ -30,7 +30,7 @@ use Rattle.cross_matrix.specs.declared.giving.GivingPart.TheVariants as giving
 abbrev pub TakesFrom : FromEnd → Connection → TakingPart → Type 0
 TakesFrom (from_end.Line a port slots) x (taking.Line sink) = (sink.slots ≡ slots) × (sink.port ≡ port)
 TakesFrom (from_end.Client n) x (taking.Client client) = (client.trace ≡ x.trace) × (client.fcs ≡ x.fcs)
-TakesFrom (from_end.Signal signal) x (taking.Signal stream) = (emitted : ℕ) × HasGiven signal emitted stream
+TakesFrom (from_end.Signal signal) x (taking.Signal stream) = (emitted : ℕ) × HasEmitted signal emitted stream
 TakesFrom from x other = ⊥
 
 -- the part gives what goes to this end
@@ -117,7 +117,7 @@ abbrev pub TakingStands : FromEnd → Connection → OwnInput → (j : ℕ) → 
 TakingStands (from_end.Line a port slots) x (of_line shows) j frames ended (taking.Line sink) =
     SinkStands (tributary_of slots port) (past_of shows (first_turn x) (turns_taken j ended)) frames sink
 TakingStands (from_end.Client n) x (of_client input) j frames ended (taking.Client client) = ⊤
-TakingStands (from_end.Signal signal) x of_signal j frames ended (taking.Signal stream) = HasGiven signal
+TakingStands (from_end.Signal signal) x of_signal j frames ended (taking.Signal stream) = HasEmitted signal
     (emitted_before x.pace j) stream
 TakingStands from x input j frames ended other = ⊥
 

@@ -23,8 +23,8 @@ pub record PipeView : Type 0 where
   pub paces : List ℕ
   pub start : ℕ
   pub slots : ℕ
-  pub came : List ℕ
-  pub gives : List ℕ
+  pub incoming : List ℕ
+  pub outgoing : List ℕ
 
 -- it is the pipe of this entry, whose line ends have as many slots, and none of whose paces brings more groups than a
 -- multiframe has
@@ -44,8 +44,8 @@ pub record PipeStands (x : Connection) (input : OwnInput) (j : ℕ) (frames : Li
     (pipe : PipeView) : Type 0 where
   pub entry : IsPipeOf x pipe
   pub taking : TakingStands x.from x input j frames ended pipe.taking
-  pub came : ended ≡ true → pipe.came ≡ emits x input j
-  pub gives : IsToClient pipe.giving → pipe.gives ≡ got_in x input j
+  pub incoming : ended ≡ true → pipe.incoming ≡ emits x input j
+  pub outgoing : IsToClient pipe.giving → pipe.outgoing ≡ got_in x input j
   pub giving : GivingStands x.to x input j filled pipe.giving
 
 -- ---- wherever a pipe stands
@@ -109,5 +109,5 @@ pub record IsPipe (taking : TakingPart) (giving : GivingPart) (paces : List ℕ)
   pub sink : HasSlots slots taking
   pub source : GivesSlots slots giving
   pub fit : All (λ pace. pace ≤ slots * GROUPS) paces
-  pub came : came_room ≡ slots * (GROUPS + 1)
-  pub gives : gives_room ≡ slots * (GROUPS + 1)
+  pub incoming : came_room ≡ slots * (GROUPS + 1)
+  pub outgoing : gives_room ≡ slots * (GROUPS + 1)

@@ -30,7 +30,7 @@ pub record ReceiverStands (first now : OutView) (arrived : List ℕ) (receiver :
   pub read : HasRead (last_run (runs_of (arrivals arrived))) receiver.reader
   pub sent : IsSent first (arriving_text arrived) now
   pub frames : receiver.frames ≡ saturated (arriving_frames arrived)
-  pub packets : receiver.packets ≡ saturated (counted_packets first.state (arriving_packets arrived) sent.went)
+  pub packets : receiver.packets ≡ saturated (counted_packets first.state (arriving_packets arrived) sent.written)
 
 -- ---- steps of a receiver
 

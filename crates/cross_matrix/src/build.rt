@@ -53,8 +53,8 @@ fn pipe_of(alloc: Global, x: &Connection) -> Result<Pipe, Memory>
         paces: Vec::from_slice(alloc, x.pace.as_slice())?,
         start: x.start,
         slots,
-        came: Burst::new(alloc, room)?,
-        gives: Burst::new(alloc, room)?,
+        incoming: Burst::new(alloc, room)?,
+        outgoing: Burst::new(alloc, room)?,
     })
 }
 

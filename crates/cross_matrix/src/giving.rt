@@ -83,27 +83,27 @@ impl GivingPart {
 
     /// Begins a turn of the output line, which takes the bytes. They complete no more groups than a multiframe has: no
     /// sink's emission does, and no pace. For a client they are kept.
-    pub(crate) fn fence(&mut self, gives: &mut Burst)
-        requires room { (m : ℕ) × GivesSlots m self.old × (gives.old.room ≡ m * (GROUPS + 1)) }
+    pub(crate) fn fence(&mut self, outgoing: &mut Burst)
+        requires room { (m : ℕ) × GivesSlots m self.old × (outgoing.old.room ≡ m * (GROUPS + 1)) }
         ensures stands { (own : Tributary) (turns : List (List ℕ)) (filled : ℕ)
             → OnSource self.old (StandsAfter own turns filled)
-            → (sent (lengths_of turns) (length turns) + length gives.old.bytes) / length own.slots ≤ sent
+            → (sent (lengths_of turns) (length turns) + length outgoing.old.bytes) / length own.slots ≤ sent
             (lengths_of turns) (length turns) / length own.slots + GROUPS
-            → OnSource self.new (StandsAfter own (turns ++ gives.old.bytes ∷ []) 0) }
+            → OnSource self.new (StandsAfter own (turns ++ outgoing.old.bytes ∷ []) 0) }
         ensures receiver { IsToClient self.old → self.new ≡ self.old }
-        ensures kept { IsToClient self.new → gives.new ≡ gives.old }
+        ensures kept { IsToClient self.new → outgoing.new ≡ outgoing.old }
         ensures entry { (to : ToEnd) → GivesTo to self.old → GivesTo to self.new }
         ensures filled { frames_filled self.new ≡ 0 }
         ensures begun { IsBegun self.new }
         ensures slots { (m : ℕ) → GivesSlots m self.old → GivesSlots m self.new }
-        ensures room_stays { gives.new.room ≡ gives.old.room }
+        ensures room_stays { outgoing.new.room ≡ outgoing.old.room }
     {
         match self {
             GivingPart::Line(source) => {
-                let (mut buffer, bytes) = gives.hand_out();
+                let (mut buffer, bytes) = outgoing.hand_out();
                 let count = (bytes.end - bytes.start).min(source.room());
                 source.take_over(&mut buffer, bytes.start..bytes.start + count);
-                gives.exchange(&mut buffer, 0..0);
+                outgoing.exchange(&mut buffer, 0..0);
             }
             GivingPart::Client(_) => {}
         }

@@ -38,8 +38,8 @@ pub struct Pipe {
     pub(crate) paces: Vec<u32>,
     pub(crate) start: u32,
     pub(crate) slots: u32,
-    pub(crate) came: Burst,
-    pub(crate) gives: Burst,
+    pub(crate) incoming: Burst,
+    pub(crate) outgoing: Burst,
 }
 
 impl Model for Pipe {
@@ -47,9 +47,9 @@ impl Model for Pipe {
 
     ghost Value = { PipeView };
 
-    ghost view = { λ p. record { taking = p.taking; giving = p.giving; paces = p.paces.items; start = p.start; slots = p.slots; came = p.came.bytes; gives = p.gives.bytes } };
+    ghost view = { λ p. record { taking = p.taking; giving = p.giving; paces = p.paces.items; start = p.start; slots = p.slots; incoming = p.incoming.bytes; outgoing = p.outgoing.bytes } };
 
-    ghost invariant = { λ p. IsPipe p.taking p.giving p.paces.items p.slots p.came.room p.gives.room };
+    ghost invariant = { λ p. IsPipe p.taking p.giving p.paces.items p.slots p.incoming.room p.outgoing.room };
 }
 
 impl Pipe {
@@ -68,8 +68,8 @@ impl Pipe {
     {
         self.taking.start();
         self.giving.start();
-        self.came.clear();
-        self.gives.clear();
+        self.incoming.clear();
+        self.outgoing.clear();
     }
 
     /// Takes frame `n`, from 0, of the turn's multiframe of the connection's line, with the MFAS that is expected of
@@ -93,7 +93,7 @@ impl Pipe {
         ensures taken { frames_taken self.new.taking ≡ 0 }
         ensures giving { self.new.giving ≡ self.old.giving }
     {
-        self.taking.end_frames(whole, &mut self.came);
+        self.taking.end_frames(whole, &mut self.incoming);
     }
 
     /// Takes from the connection's client what turn `turn` of the plan emits. The place is the same in every turn.
@@ -111,7 +111,7 @@ impl Pipe {
         ensures giving { self.new.giving ≡ self.old.giving }
     {
         let count = pace_at(&self.paces, turn - self.start);
-        self.taking.take_client(count, place, &mut self.came);
+        self.taking.take_client(count, place, &mut self.incoming);
     }
 
     /// Fills the connection's own places in frame `n`, from 0, of the turn of its output line. Every other byte stays.
@@ -142,7 +142,7 @@ impl Pipe {
         ensures entry { (x : Connection) → IsPipeOf x self.old → IsPipeOf x self.new }
         ensures taking { self.new.taking ≡ self.old.taking }
     {
-        self.giving.give_client(self.gives.bytes(), place);
+        self.giving.give_client(self.outgoing.bytes(), place);
     }
 
     /// Ends turn `turn` of the plan: a signal emits what the turn brings, and what came is handed on to the next turn.
@@ -157,10 +157,10 @@ impl Pipe {
         ensures begun { IsBegun self.new.giving }
     {
         let count = pace_at(&self.paces, turn - self.start);
-        self.taking.fence(count, &mut self.came);
-        mem::swap(&mut self.came, &mut self.gives);
-        self.came.clear();
-        self.giving.fence(&mut self.gives);
+        self.taking.fence(count, &mut self.incoming);
+        mem::swap(&mut self.incoming, &mut self.outgoing);
+        self.incoming.clear();
+        self.giving.fence(&mut self.outgoing);
     }
 
     /// What the connection comes from is, after the turns that it took.

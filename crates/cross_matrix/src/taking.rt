@@ -1,6 +1,6 @@
 // The part of a pipe that takes from the connection's input.
 ghost use Rattle.std.specs.Prelude.{◌≡◌, ◌<◌, ◌≤◌, ◌+◌, ◌*◌, ◌&&◌, ◌==◌, if◌then◌else◌, ℕ, true, false, List, [], Option, IsTrue, length, take, ◌≢◌, nat_lt, option_map};
-ghost use Rattle.maintenance_signals.specs.Given.{HasGiven};
+ghost use Rattle.maintenance_signals.specs.Given.{HasEmitted};
 ghost use Rattle.maintenance_signals.specs.Stream.{signal_bytes};
 ghost use Rattle.maintenance_signals.specs.declared.signal.Signal.{Signal};
 ghost use Rattle.odu_client.specs.Framing.{ClientStands, Fills};
@@ -81,22 +81,22 @@ impl TakingPart {
     }
 
     /// Ends a turn of the connection's line: what its sink emits came, in a buffer that the sink gives in exchange.
-    pub(crate) fn end_frames(&mut self, whole: bool, came: &mut Burst)
+    pub(crate) fn end_frames(&mut self, whole: bool, incoming: &mut Burst)
         requires line { OnSink self.old (λ sink. IsTrue whole → sink.taken ≡ slots_of sink.slots.kind) }
-        requires room { OnSink self.old (λ sink. came.old.room ≡ length sink.slots.list * (GROUPS + 1)) }
+        requires room { OnSink self.old (λ sink. incoming.old.room ≡ length sink.slots.list * (GROUPS + 1)) }
         ensures stands { OfLinePart whole self.old (λ from at. TakesAt from (line_over at) self.new) }
         ensures bytes { OfLinePart whole self.old
-            (λ from at. came.new.bytes ≡ emits_by from at.entry at.input at.turn) }
+            (λ from at. incoming.new.bytes ≡ emits_by from at.entry at.input at.turn) }
         ensures entry { (from : FromEnd) (x : Connection) → TakesFrom from x self.old → TakesFrom from x self.new }
         ensures taken { frames_taken self.new ≡ 0 }
         ensures slots { (m : ℕ) → HasSlots m self.old → HasSlots m self.new }
-        ensures room_stays { came.new.room ≡ came.old.room }
+        ensures room_stays { incoming.new.room ≡ incoming.old.room }
     {
         match self {
             TakingPart::Line(sink) => {
-                let (mut buffer, _) = came.hand_out();
+                let (mut buffer, _) = incoming.hand_out();
                 let emitted = sink.hand_over(whole, &mut buffer);
-                came.exchange(&mut buffer, emitted);
+                incoming.exchange(&mut buffer, emitted);
             }
             TakingPart::Client(_) => {}
             TakingPart::Signal(_) => {}
@@ -108,20 +108,20 @@ impl TakingPart {
         &mut self,
         count: usize,
         place: &mut InPlaceOf<P>,
-        came: &mut Burst,
+        incoming: &mut Burst,
     )
-        requires room { count ≤ came.old.room }
+        requires room { count ≤ incoming.old.room }
         ensures took { (x : Connection) (first : InView) (read : List ℕ) (n : ℕ) → count ≡ pace_of x.pace n
             → ClientInStands x first (in_view P.Source place.old) read n self.old
-            → TextTook x first (in_view P.Source place.new) read n self.old self.new came.new.bytes }
+            → TextTook x first (in_view P.Source place.new) read n self.old self.new incoming.new.bytes }
         ensures quiet { IsTextOver self.old → place.new ≡ place.old }
         ensures entry { (from : FromEnd) (x : Connection) → TakesFrom from x self.old → TakesFrom from x self.new }
         ensures slots { (m : ℕ) → HasSlots m self.old → HasSlots m self.new }
-        ensures room_stays { came.new.room ≡ came.old.room }
+        ensures room_stays { incoming.new.room ≡ incoming.old.room }
     {
         match self {
             TakingPart::Client(client) => {
-                let (mut buffer, _) = came.hand_out();
+                let (mut buffer, _) = incoming.hand_out();
                 fill_front(
                     &mut client.framer,
                     &mut client.lines,
@@ -129,7 +129,7 @@ impl TakingPart {
                     &mut buffer,
                     count,
                 );
-                came.exchange(&mut buffer, 0..count);
+                incoming.exchange(&mut buffer, 0..count);
             }
             TakingPart::Line(_) => {}
             TakingPart::Signal(_) => {}
@@ -137,23 +137,23 @@ impl TakingPart {
     }
 
     /// Ends a turn: a signal emits so many bytes; a line and a client have had their part of it.
-    pub(crate) fn fence(&mut self, count: usize, came: &mut Burst)
-        requires room { count ≤ came.old.room }
+    pub(crate) fn fence(&mut self, count: usize, incoming: &mut Burst)
+        requires room { count ≤ incoming.old.room }
         ensures stands { OfDonePart count self.old (λ from at. TakesAt from (next_turn at) self.new) }
         ensures bytes { OfDonePart count self.old (λ from at.
-            (at.ended ≡ true → came.old.bytes ≡ emits_by from at.entry at.input at.turn)
-            → came.new.bytes ≡ emits_by from at.entry at.input at.turn) }
+            (at.ended ≡ true → incoming.old.bytes ≡ emits_by from at.entry at.input at.turn)
+            → incoming.new.bytes ≡ emits_by from at.entry at.input at.turn) }
         ensures client { IsOfClient self.old → self.new ≡ self.old }
         ensures entry { (from : FromEnd) (x : Connection) → TakesFrom from x self.old → TakesFrom from x self.new }
         ensures taken { frames_taken self.new ≡ frames_taken self.old }
         ensures slots { (m : ℕ) → HasSlots m self.old → HasSlots m self.new }
-        ensures room_stays { came.new.room ≡ came.old.room }
+        ensures room_stays { incoming.new.room ≡ incoming.old.room }
     {
         match self {
             TakingPart::Signal(stream) => {
-                let (mut buffer, _) = came.hand_out();
+                let (mut buffer, _) = incoming.hand_out();
                 next_front(stream, &mut buffer, count);
-                came.exchange(&mut buffer, 0..count);
+                incoming.exchange(&mut buffer, 0..count);
             }
             TakingPart::Line(_) => {}
             TakingPart::Client(_) => {}
@@ -262,10 +262,10 @@ fn fill_front<P: Source>(
 fn next_front(stream: &mut SignalBytes, into: &mut [u8], count: usize)
     requires { count ≤ length into.old }
     ensures size { length into.new ≡ length into.old }
-    ensures bytes { (signal : Signal) (emitted : ℕ) → HasGiven signal emitted stream.old
+    ensures bytes { (signal : Signal) (emitted : ℕ) → HasEmitted signal emitted stream.old
         → take count into.new ≡ signal_bytes signal emitted count }
-    ensures emitted { (signal : Signal) (emitted : ℕ) → HasGiven signal emitted stream.old
-        → HasGiven signal (emitted + count) stream.new }
+    ensures emitted { (signal : Signal) (emitted : ℕ) → HasEmitted signal emitted stream.old
+        → HasEmitted signal (emitted + count) stream.new }
 {
     stream.next(&mut into[..count]);
 }

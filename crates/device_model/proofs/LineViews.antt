@@ -66,14 +66,14 @@ same_emitted own one other t is agree =
 
 -- ---- whole turns
 
-frames_many : (size : ℕ) (given : List ℕ) (lock : Lock) → length (frames_of size given lock) ≡ size
+frames_many : (size : ℕ) (available : List ℕ) (lock : Lock) → length (frames_of size available lock) ≡ size
 unfolding frames_of
-frames_many size given lock = length-map-range_with_len (member_at given lock) 0 size
+frames_many size available lock = length-map-range_with_len (member_at available lock) 0 size
 
-pub whole_at : (own : Tributary) (given : List ℕ) (t : ℕ) → IsTributary own → IsWholeTurn (length own.slots) (view_at own given t)
+pub whole_at : (own : Tributary) (available : List ℕ) (t : ℕ) → IsTributary own → IsWholeTurn (length own.slots) (view_at own available t)
 unfolding view_at
-whole_at own given t is = go (multiframe own.line_slots (mfas_of given) t)
+whole_at own available t is = go (multiframe own.line_slots (mfas_of available) t)
   where
-    go : (o : Option Lock) → IsWholeTurn (length own.slots) (turn_view own (option_map (frames_of own.line_slots given) o))
+    go : (o : Option Lock) → IsWholeTurn (length own.slots) (turn_view own (option_map (frames_of own.line_slots available) o))
     go None = tt
-    go (Some lock) = whole_view own (frames_of own.line_slots given lock) is (frames_many own.line_slots given lock)
+    go (Some lock) = whole_view own (frames_of own.line_slots available lock) is (frames_many own.line_slots available lock)

@@ -36,11 +36,11 @@ frame_in_file n before (put ∷ puts) [] i h l = absurd h
 frame_in_file n before [] (x ∷ frames) i h l = absurd h
 
 -- Frame i, from 0, of the bytes of a line file has what is put into it.
-pub record MadeAt (plan : Plan) (inputs : Inputs) (b i : ℕ) (given : List ℕ) : Type 0 where
+pub record MadeAt (plan : Plan) (inputs : Inputs) (b i : ℕ) (available : List ℕ) : Type 0 where
   pub put : FramePut
   pub is : IsFrameOf plan inputs b (i / size_of (form_out plan b)) (i % size_of (form_out plan b)) put
   pub bip : ℕ
-  pub frame : IsLineFrame b bip put (frame_at given i)
+  pub frame : IsLineFrame b bip put (frame_at available i)
 
 no_put : FramePut
 no_put = record { mfas = 0; ports = []; bytes = [] }

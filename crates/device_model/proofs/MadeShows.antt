@@ -67,9 +67,9 @@ record MadeIn (plan : Plan) (inputs : Inputs) (b past n : ℕ) (bytes : List ℕ
   pub bip : ℕ
   pub frame : IsLineFrame b bip put bytes
 
-in_turn : (plan : Plan) (inputs : Inputs) (b past n : ℕ) (given : List ℕ) → n < size_of (form_out plan b) → MadeAt plan inputs b (size_of (form_out plan b) * past + n) given
-    → MadeIn plan inputs b past n (frame_at given (size_of (form_out plan b) * past + n))
-in_turn plan inputs b past n given l made =
+in_turn : (plan : Plan) (inputs : Inputs) (b past n : ℕ) (available : List ℕ) → n < size_of (form_out plan b) → MadeAt plan inputs b (size_of (form_out plan b) * past + n) available
+    → MadeIn plan inputs b past n (frame_at available (size_of (form_out plan b) * past + n))
+in_turn plan inputs b past n available l made =
     let size = size_of (form_out plan b) in
     let some : 0 < size = omega arith in
     let small : n / size ≡ 0 = div-eq_of_lt l in
@@ -113,17 +113,17 @@ msi_in plan inputs b past n frame x port slots expected row column made sends en
 
 -- ---- the frames of a turn
 
-pub member_is : (size : ℕ) (given : List ℕ) (lock : Lock) (n : ℕ) (f : Taken) → slice_get (frames_of size given lock) n ≡ Some f → (n < size) × (f ≡ member_at given lock n)
+pub member_is : (size : ℕ) (available : List ℕ) (lock : Lock) (n : ℕ) (f : Taken) → slice_get (frames_of size available lock) n ≡ Some f → (n < size) × (f ≡ member_at available lock n)
 unfolding frames_of
-member_is size given lock n f e =
-    let inside = slice_get_within (map (member_at given lock) (range_with_len 0 size)) n f e in
-    let many = length-map-range_with_len (member_at given lock) 0 size in
+member_is size available lock n f e =
+    let inside = slice_get_within (map (member_at available lock) (range_with_len 0 size)) n f e in
+    let many = length-map-range_with_len (member_at available lock) 0 size in
     let l : n < size = omega arith in
-    (l, sym (get_or_from_slice_get (map (member_at given lock) (range_with_len 0 size)) n f f e) ∙ get_or-map-range_with_len (member_at given lock) 0 size n n f l (omega arith))
+    (l, sym (get_or_from_slice_get (map (member_at available lock) (range_with_len 0 size)) n f f e) ∙ get_or-map-range_with_len (member_at available lock) 0 size n n f l (omega arith))
 
-pub frames_many : (size : ℕ) (given : List ℕ) (lock : Lock) → length (frames_of size given lock) ≡ size
+pub frames_many : (size : ℕ) (available : List ℕ) (lock : Lock) → length (frames_of size available lock) ≡ size
 unfolding frames_of
-frames_many size given lock = length-map-range_with_len (member_at given lock) 0 size
+frames_many size available lock = length-map-range_with_len (member_at available lock) 0 size
 
 pub shows_its_connections : (plan : Plan) (inputs : Inputs) (b count past : ℕ) (frames : List (List ℕ)) (x : Connection) (port : ℕ) (slots : LineSlots)
     → IsLineFile plan inputs b count frames → size_of (form_out plan b) * (past + 1) ≤ count → IsSentOn plan b past x port slots → IsLineEnd plan b port slots
@@ -131,21 +131,21 @@ pub shows_its_connections : (plan : Plan) (inputs : Inputs) (b count past : ℕ)
 shows_its_connections plan inputs b count past frames x port slots file whole sends end =
     let size = size_of (form_out plan b) in
     let own = tributary_of slots port in
-    let given = concat frames in
+    let available = concat frames in
     let turns = got_by x (own_input inputs x) (own_turn x past + 1) in
     let next = next_turn size past in
-    let made : (n : ℕ) → n < size → MadeIn plan inputs b past n (frame_at given (size * past + n))
-    = λ n l. in_turn plan inputs b past n given l (made_at plan inputs b count frames (size * past + n) file (omega arith)) in
+    let made : (n : ℕ) → n < size → MadeIn plan inputs b past n (frame_at available (size * past + n))
+    = λ n l. in_turn plan inputs b past n available l (made_at plan inputs b count frames (size * past + n) file (omega arith)) in
     record {
-      many = frames_many size given (lock_at size past) ∙ sym (ap slots_of end.kind);
+      many = frames_many size available (lock_at size past) ∙ sym (ap slots_of end.kind);
       put = λ n f e.
-          let is = member_is size given (lock_at size past) n f e in
+          let is = member_is size available (lock_at size past) n f e in
           let m = made n is.0 in
           subst (λ (g : Taken). IsPut own turns (own_turn x past) n g.frame) (sym is.1)
-          (stays_where_kept own turns (own_turn x past) n m.put.bytes (frame_at given (size * past + n)) (m.is.own x port slots sends)
-          (λ row column o. kept_place own n b m.bip m.put (frame_at given (size * past + n)) row column m.frame o));
+          (stays_where_kept own turns (own_turn x past) n m.put.bytes (frame_at available (size * past + n)) (m.is.own x port slots sends)
+          (λ row column o. kept_place own n b m.bip m.put (frame_at available (size * past + n)) row column m.frame o));
       msi = λ n f e.
-          let is = member_is size given (lock_at size past) n f e in
+          let is = member_is size available (lock_at size past) n f e in
           subst (λ (g : Taken). (row column : ℕ) → IsOwnMsi own g.expected row column → byte_at g.frame row column ≡ msi_byte own.port) (sym is.1)
-          (λ row column o. msi_in plan inputs b past n (frame_at given (size * past + n)) x port slots ((size * past % 256 + n) % 256) row column (made n is.0) sends end (omega arith) o);
+          (λ row column o. msi_in plan inputs b past n (frame_at available (size * past + n)) x port slots ((size * past % 256 + n) % 256) row column (made n is.0) sends end (omega arith) o);
     }

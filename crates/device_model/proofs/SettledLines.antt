@@ -77,72 +77,72 @@ between Otu3 ms t = between_turns 31 ms t
 
 -- ---- the byte that was asked for
 
-none_came : (came : List ℕ) → has_come came ≡ false → came ≡ []
+none_came : (further : List ℕ) → has_come further ≡ false → further ≡ []
 none_came [] e = refl
 none_came (byte ∷ bytes) e = absurd (cc)
 
-one_came : (came : List ℕ) → length came ≤ 1 → has_come came ≡ true → length came ≡ 1
+one_came : (further : List ℕ) → length further ≤ 1 → has_come further ≡ true → length further ≡ 1
 one_came [] most e = absurd (cc)
 one_came (byte ∷ []) most e = refl
 one_came (byte ∷ (next ∷ bytes)) most e = absurd (omega arith)
 
 -- a place that is not live is as it was, and no byte of it came
-idle_asked : (asks : Bool) (was is : InView) (came : List ℕ) → ByteAsked asks was is came → was.state ≢ Live → (is ≡ was) × (came ≡ [])
-idle_asked asks was is came h idle = h.gave.idle idle
+idle_asked : (asks : Bool) (was is : InView) (further : List ℕ) → ByteAsked asks was is further → was.state ≢ Live → (is ≡ was) × (further ≡ [])
+idle_asked asks was is further h idle = h.gave.idle idle
 
 -- where a line has ended no byte came, and its place is as it was
-ended_asked : (form : LineForm) (first was is : InView) (taken came : List ℕ) (t : ℕ) (line : LineView) → LineStands form first was taken t line → ByteAsked (not (is_seen line.reader.ending)) was is came
-    → (e : Ending) → line.reader.ending ≡ e → e ≢ Open → (is ≡ was) × (came ≡ [])
-ended_asked form first was is taken came t line h asked Open e closed = absurd (closed refl)
-ended_asked form first was is taken came t line h asked Seen e closed = asked.quiet (ap (λ d. not (is_seen d)) e)
-ended_asked form first was is taken came t line h asked Died e closed = asked.gave.idle (λ live. dead_not_live (sym (h.ending.died e) ∙ live))
+ended_asked : (form : LineForm) (first was is : InView) (read further : List ℕ) (t : ℕ) (line : LineView) → LineStands form first was read t line → ByteAsked (not (is_seen line.reader.ending)) was is further
+    → (e : Ending) → line.reader.ending ≡ e → e ≢ Open → (is ≡ was) × (further ≡ [])
+ended_asked form first was is read further t line h asked Open e closed = absurd (closed refl)
+ended_asked form first was is read further t line h asked Seen e closed = asked.quiet (ap (λ d. not (is_seen d)) e)
+ended_asked form first was is read further t line h asked Died e closed = asked.gave.idle (λ live. dead_not_live (sym (h.ending.died e) ∙ live))
 
 -- what a line may turn out to be at the end it might be before
-pub may_at_end : (form : LineForm) (first was is : InView) (taken came raw given : List ℕ) (t : ℕ) (line : LineView) → LineStands form first was taken t line → ByteAsked (not (is_seen line.reader.ending)) was is came
-    → MayHave (has_come came) (taken ++ came) raw → given ≡ through_mask form.scrambled raw → MayBe form.scrambled line.reader.ending taken given
-may_at_end form first was is taken came raw given t line h asked may e = record {
-  rest = came ++ may.rest;
-  over = λ closed. (let none = (ended_asked form first was is taken came t line h asked line.reader.ending refl closed).1 in
+pub may_at_end : (form : LineForm) (first was is : InView) (read further raw available : List ℕ) (t : ℕ) (line : LineView) → LineStands form first was read t line → ByteAsked (not (is_seen line.reader.ending)) was is further
+    → MayHave (has_come further) (read ++ further) raw → available ≡ through_mask form.scrambled raw → MayBe form.scrambled line.reader.ending read available
+may_at_end form first was is read further raw available t line h asked may e = record {
+  rest = further ++ may.rest;
+  over = λ closed. (let none = (ended_asked form first was is read further t line h asked line.reader.ending refl closed).1 in
       ap (λ bytes. bytes ++ may.rest) none ∙ may.over (ap has_come none));
-  parts = e ∙ ap (through_mask form.scrambled) (may.parts ∙ append_assoc taken came may.rest);
+  parts = e ∙ ap (through_mask form.scrambled) (may.parts ∙ append_assoc read further may.rest);
 }
 
 -- how many bytes there are
-length_at_end : (form : LineForm) (taken came raw given : List ℕ) → (may : MayHave (has_come came) (taken ++ came) raw) → given ≡ through_mask form.scrambled raw
-    → length given ≡ length taken + length came + length may.rest
-length_at_end form taken came raw given may e =
-    ap length (e ∙ ap (through_mask form.scrambled) (may.parts ∙ append_assoc taken came may.rest)) ∙ length_parts form.scrambled taken came may.rest
+length_at_end : (form : LineForm) (read further raw available : List ℕ) → (may : MayHave (has_come further) (read ++ further) raw) → available ≡ through_mask form.scrambled raw
+    → length available ≡ length read + length further + length may.rest
+length_at_end form read further raw available may e =
+    ap length (e ∙ ap (through_mask form.scrambled) (may.parts ∙ append_assoc read further may.rest)) ∙ length_parts form.scrambled read further may.rest
 
 -- Of the line was taken what its turns want, and one byte more, or all that there is; and more was there exactly where
 -- that byte came.
-pub record EndOfLine (form : LineForm) (taken came given : List ℕ) (t : ℕ) : Type 0 where
-  pub took : length (taken ++ came) ≡ min (length given) (suc (line_taken form given t 0))
-  pub more : has_come came ≡ true → line_taken form given t 0 < length given
-  pub none : has_come came ≡ false → length given ≤ line_taken form given t 0
+pub record EndOfLine (form : LineForm) (read further available : List ℕ) (t : ℕ) : Type 0 where
+  pub took : length (read ++ further) ≡ min (length available) (suc (line_taken form available t 0))
+  pub more : has_come further ≡ true → line_taken form available t 0 < length available
+  pub none : has_come further ≡ false → length available ≤ line_taken form available t 0
 
-end_by : (form : LineForm) (taken came rest given : List ℕ) (t : ℕ) (b : Bool) → has_come came ≡ b → length came ≤ 1 → (b ≡ false → rest ≡ []) → length given ≡ length taken + length came + length rest
-    → length (taken ++ came) ≡ length taken + length came → length taken ≡ line_taken form given t 0 → EndOfLine form taken came given t
-end_by form taken came rest given t true e most over parts sum took =
-    let one = one_came came most e in
+end_by : (form : LineForm) (read further rest available : List ℕ) (t : ℕ) (b : Bool) → has_come further ≡ b → length further ≤ 1 → (b ≡ false → rest ≡ []) → length available ≡ length read + length further + length rest
+    → length (read ++ further) ≡ length read + length further → length read ≡ line_taken form available t 0 → EndOfLine form read further available t
+end_by form read further rest available t true e most over parts sum took =
+    let one = one_came further most e in
     record { took = omega (arith, one, parts, sum, took); more = λ _. omega (arith, one, parts, took); none = λ f. absurd (cc) }
-end_by form taken came rest given t false e most over parts sum took =
-    let none : length came ≡ 0 = ap length (none_came came e) in
+end_by form read further rest available t false e most over parts sum took =
+    let none : length further ≡ 0 = ap length (none_came further e) in
     let nothing : length rest ≡ 0 = ap length (over refl) in
     record { took = omega (arith, none, nothing, parts, sum, took); more = λ f. absurd (cc); none = λ _. omega (arith, none, nothing, parts, took) }
 
-pub end_of_line : (form : LineForm) (first was is : InView) (taken came raw given : List ℕ) (t : ℕ) (line : LineView) → LineStands form first was taken t line → line.pieces ≡ 0
-    → ByteAsked (not (is_seen line.reader.ending)) was is came → MayHave (has_come came) (taken ++ came) raw → given ≡ through_mask form.scrambled raw → EndOfLine form taken came given t
-end_of_line form first was is taken came raw given t line h none asked may e =
-    end_by form taken came may.rest given t (has_come came) refl asked.most may.over (length_at_end form taken came raw given may e) (length-append taken came)
-    (took_is form first was taken given t line h (may_at_end form first was is taken came raw given t line h asked may e) ∙ ap (line_taken form given t) none)
+pub end_of_line : (form : LineForm) (first was is : InView) (read further raw available : List ℕ) (t : ℕ) (line : LineView) → LineStands form first was read t line → line.pieces ≡ 0
+    → ByteAsked (not (is_seen line.reader.ending)) was is further → MayHave (has_come further) (read ++ further) raw → available ≡ through_mask form.scrambled raw → EndOfLine form read further available t
+end_of_line form first was is read further raw available t line h none asked may e =
+    end_by form read further may.rest available t (has_come further) refl asked.most may.over (length_at_end form read further raw available may e) (length-append read further)
+    (took_is form first was read available t line h (may_at_end form first was is read further raw available t line h asked may e) ∙ ap (line_taken form available t) none)
 
 -- ---- the place
 
 -- what was taken of its place, and whether more may stand behind that
-pub line_left : (form : LineForm) (first was is : InView) (taken came : List ℕ) (t : ℕ) (line : LineView) → LineStands form first was taken t line → ByteAsked (not (is_seen line.reader.ending)) was is came
-    → InputLeft first is (taken ++ came) (has_come came)
-line_left form first was is taken came t line h asked = record {
-  gave = gave_twice first was is taken came h.gave asked.gave;
+pub line_left : (form : LineForm) (first was is : InView) (read further : List ℕ) (t : ℕ) (line : LineView) → LineStands form first was read t line → ByteAsked (not (is_seen line.reader.ending)) was is further
+    → InputLeft first is (read ++ further) (has_come further)
+line_left form first was is read further t line h asked = record {
+  gave = gave_twice first was is read further h.gave asked.gave;
   live = asked.lives;
   over = λ none live. by_ending line.reader.ending refl none live;
   died = λ dead. died_by line.reader.ending refl dead;
@@ -150,15 +150,15 @@ line_left form first was is taken came t line h asked = record {
   where
     died_by : (e : Ending) → line.reader.ending ≡ e → is.state ≡ Dead → is.ended ≡ first.ended
     died_by Open e dead = asked.died dead ∙ h.unended (λ seen. (let f = sym e ∙ seen in cc))
-    died_by Seen e dead = let same = (ended_asked form first was is taken came t line h asked Seen e (λ o. cc)).0 in absurd (h.ending.seen e (sym (ap (λ (v : InView). v.state) same) ∙ dead))
+    died_by Seen e dead = let same = (ended_asked form first was is read further t line h asked Seen e (λ o. cc)).0 in absurd (h.ending.seen e (sym (ap (λ (v : InView). v.state) same) ∙ dead))
     died_by Died e dead = asked.died dead ∙ h.unended (λ seen. (let f = sym e ∙ seen in cc))
 
     by_closed : (e : Ending) → line.reader.ending ≡ e → e ≢ Open → is.state ≡ Live → HasEnded is.left is.ended
     by_closed e at closed live =
-        let same = (ended_asked form first was is taken came t line h asked e at closed).0 in
+        let same = (ended_asked form first was is read further t line h asked e at closed).0 in
         subst (λ (v : InView). HasEnded v.left v.ended) (sym same) (h.over (λ o. closed (sym at ∙ o)) (sym (ap (λ (v : InView). v.state) same) ∙ live))
 
-    by_ending : (e : Ending) → line.reader.ending ≡ e → has_come came ≡ false → is.state ≡ Live → HasEnded is.left is.ended
+    by_ending : (e : Ending) → line.reader.ending ≡ e → has_come further ≡ false → is.state ≡ Live → HasEnded is.left is.ended
     by_ending Open e none live = asked.over (ap (λ d. not (is_seen d)) e) none live
     by_ending Seen e none live = by_closed Seen e (λ o. cc) live
     by_ending Died e none live = by_closed Died e (λ o. cc) live
@@ -166,60 +166,60 @@ line_left form first was is taken came t line h asked = record {
 -- ---- how the line ended
 
 -- the frames that its turns wanted are whole, while its end was not seen; once it was, they are not
-wanted_whole : (form : LineForm) (given : List ℕ) (n t : ℕ) (line : LineView) → IsLine (size_of form) given n t line → line.pieces ≡ 0 → line.reader.ending ≡ Open
-    → nat_lt (length (mfas_of given)) (wanted (size_of form) (mfas_of given) t) ≡ false
-wanted_whole form given n t line h none e =
+wanted_whole : (form : LineForm) (available : List ℕ) (n t : ℕ) (line : LineView) → IsLine (size_of form) available n t line → line.pieces ≡ 0 → line.reader.ending ≡ Open
+    → nat_lt (length (mfas_of available)) (wanted (size_of form) (mfas_of available) t) ≡ false
+wanted_whole form available n t line h none e =
     let s = (h.read.still e).1 in
     let within = h.read.within in
-    let count = length_mfas given in
-    let turns : wanted_so_far (size_of form) (mfas_of given) t line.pieces ≡ wanted (size_of form) (mfas_of given) t = ap (wanted_so_far (size_of form) (mfas_of given) t) none ∙ between form.kind (mfas_of given) t in
+    let count = length_mfas available in
+    let turns : wanted_so_far (size_of form) (mfas_of available) t line.pieces ≡ wanted (size_of form) (mfas_of available) t = ap (wanted_so_far (size_of form) (mfas_of available) t) none ∙ between form.kind (mfas_of available) t in
     not_less _ _ (omega (arith, s, within, count, turns))
   where
     not_less : (a b : ℕ) → b ≤ a → nat_lt a b ≡ false
     not_less a b le = grind (arith, nat_tests)
 
-wanted_more_than_whole : (form : LineForm) (given : List ℕ) (n t : ℕ) (line : LineView) → IsLine (size_of form) given n t line → line.pieces ≡ 0 → line.reader.ending ≢ Open
-    → nat_lt (length (mfas_of given)) (wanted (size_of form) (mfas_of given) t) ≡ true
-wanted_more_than_whole form given n t line h none closed =
+wanted_more_than_whole : (form : LineForm) (available : List ℕ) (n t : ℕ) (line : LineView) → IsLine (size_of form) available n t line → line.pieces ≡ 0 → line.reader.ending ≢ Open
+    → nat_lt (length (mfas_of available)) (wanted (size_of form) (mfas_of available) t) ≡ true
+wanted_more_than_whole form available n t line h none closed =
     let over = (h.read.over closed).2 in
-    let count = length_mfas given in
-    let turns : wanted_so_far (size_of form) (mfas_of given) t line.pieces ≡ wanted (size_of form) (mfas_of given) t = ap (wanted_so_far (size_of form) (mfas_of given) t) none ∙ between form.kind (mfas_of given) t in
+    let count = length_mfas available in
+    let turns : wanted_so_far (size_of form) (mfas_of available) t line.pieces ≡ wanted (size_of form) (mfas_of available) t = ap (wanted_so_far (size_of form) (mfas_of available) t) none ∙ between form.kind (mfas_of available) t in
     less _ _ (omega (arith, over, count, turns))
   where
     less : (a b : ℕ) → a < b → nat_lt a b ≡ true
     less a b lt = grind (arith, nat_tests)
 
-rest_open : (s : State) (given : List ℕ) (a b : ℕ) → nat_lt a b ≡ false → 0 ≡ rest_of (ending_of s a b) given
-rest_open Dead given a b e = refl
-rest_open Live given a b e = rw e refl
-rest_open Empty given a b e = rw e refl
+rest_open : (s : State) (available : List ℕ) (a b : ℕ) → nat_lt a b ≡ false → 0 ≡ rest_of (ending_of s a b) available
+rest_open Dead available a b e = refl
+rest_open Live available a b e = rw e refl
+rest_open Empty available a b e = rw e refl
 
-rest_seen : (s : State) (given : List ℕ) (a b : ℕ) → s ≢ Dead → nat_lt a b ≡ true → rest_of Seen given ≡ rest_of (ending_of s a b) given
-rest_seen Dead given a b alive e = absurd (alive refl)
-rest_seen Live given a b alive e = rw e refl
-rest_seen Empty given a b alive e = rw e refl
+rest_seen : (s : State) (available : List ℕ) (a b : ℕ) → s ≢ Dead → nat_lt a b ≡ true → rest_of Seen available ≡ rest_of (ending_of s a b) available
+rest_seen Dead available a b alive e = absurd (alive refl)
+rest_seen Live available a b alive e = rw e refl
+rest_seen Empty available a b alive e = rw e refl
 
-rest_died : (s : State) (given : List ℕ) (a b : ℕ) → s ≡ Dead → rest_of Died given ≡ rest_of (ending_of s a b) given
-rest_died Dead given a b e = refl
-rest_died Live given a b e = absurd (cc)
-rest_died Empty given a b e = absurd (cc)
+rest_died : (s : State) (available : List ℕ) (a b : ℕ) → s ≡ Dead → rest_of Died available ≡ rest_of (ending_of s a b) available
+rest_died Dead available a b e = refl
+rest_died Live available a b e = absurd (cc)
+rest_died Empty available a b e = absurd (cc)
 
 -- The bytes after the last whole frame are counted as the line's place and its turns have it in the end.
-pub rest_settled : (form : LineForm) (first was is : InView) (taken came given : List ℕ) (t : ℕ) (line : LineView) → LineStands form first was taken t line → line.pieces ≡ 0
-    → ByteAsked (not (is_seen line.reader.ending)) was is came → MayBe form.scrambled line.reader.ending taken given → rest_of line.reader.ending given ≡ rest_of (line_ending is.state form given t) given
-rest_settled form first was is taken came given t line h none asked may = by_ending line.reader.ending refl
+pub rest_settled : (form : LineForm) (first was is : InView) (read further available : List ℕ) (t : ℕ) (line : LineView) → LineStands form first was read t line → line.pieces ≡ 0
+    → ByteAsked (not (is_seen line.reader.ending)) was is further → MayBe form.scrambled line.reader.ending read available → rest_of line.reader.ending available ≡ rest_of (line_ending is.state form available t) available
+rest_settled form first was is read further available t line h none asked may = by_ending line.reader.ending refl
   where
     whole : ℕ
-    whole = length (mfas_of given)
+    whole = length (mfas_of available)
 
     wants : ℕ
-    wants = wanted (size_of form) (mfas_of given) t
+    wants = wanted (size_of form) (mfas_of available) t
 
     stays : (e : Ending) → line.reader.ending ≡ e → e ≢ Open → is.state ≡ was.state
-    stays e at closed = ap (λ (v : InView). v.state) (ended_asked form first was is taken came t line h asked e at closed).0
+    stays e at closed = ap (λ (v : InView). v.state) (ended_asked form first was is read further t line h asked e at closed).0
 
-    by_ending : (e : Ending) → line.reader.ending ≡ e → rest_of line.reader.ending given ≡ rest_of (ending_of is.state whole wants) given
-    by_ending Open e = ap (λ d. rest_of d given) e ∙ rest_open is.state given whole wants (wanted_whole form given (length taken) t line (h.is_line given may) none e)
-    by_ending Seen e = ap (λ d. rest_of d given) e ∙ rest_seen is.state given whole wants (λ dead. h.ending.seen e (sym (stays Seen e (λ o. cc)) ∙ dead))
-        (wanted_more_than_whole form given (length taken) t line (h.is_line given may) none (λ o. (let f = sym e ∙ o in cc)))
-    by_ending Died e = ap (λ d. rest_of d given) e ∙ rest_died is.state given whole wants (stays Died e (λ o. cc) ∙ h.ending.died e)
+    by_ending : (e : Ending) → line.reader.ending ≡ e → rest_of line.reader.ending available ≡ rest_of (ending_of is.state whole wants) available
+    by_ending Open e = ap (λ d. rest_of d available) e ∙ rest_open is.state available whole wants (wanted_whole form available (length read) t line (h.is_line available may) none e)
+    by_ending Seen e = ap (λ d. rest_of d available) e ∙ rest_seen is.state available whole wants (λ dead. h.ending.seen e (sym (stays Seen e (λ o. cc)) ∙ dead))
+        (wanted_more_than_whole form available (length read) t line (h.is_line available may) none (λ o. (let f = sym e ∙ o in cc)))
+    by_ending Died e = ap (λ d. rest_of d available) e ∙ rest_died is.state available whole wants (stays Died e (λ o. cc) ∙ h.ending.died e)

@@ -79,12 +79,12 @@ last_state turns x input = if x.stop == turns then Some (state_in x input (turns
 -- ---- of all
 
 -- what went to the output lines and to the client outputs
-pub record Went : Type 0 where
+pub record OutputBytes : Type 0 where
   pub line : (b : ℕ) → List ℕ
   pub client : (n : ℕ) → List ℕ
 
 -- The numbers of a run whose places were first and last so, whose inputs gave these, and to whose outputs this went.
-pub record AreNumbers (plan : Plan) (inputs : Inputs) (written : Went) (first last : BaysView)
+pub record AreNumbers (plan : Plan) (inputs : Inputs) (written : OutputBytes) (first last : BaysView)
     (numbers : Numbers) : Type 0 where
   pub line_in : (a : ℕ) → uses plan (port.LineIn a) ≡ true
       → numbers.line_in a ≡ numbers_of (form_in plan a) (line_ending (place_state last (port.LineIn a))

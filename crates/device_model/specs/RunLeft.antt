@@ -17,7 +17,7 @@ use Rattle.device_model.specs.Entries.{form_in}
 use Rattle.device_model.specs.Inputs.{has_died}
 use Rattle.device_model.specs.LineAsked.{MayHave, InputLeft}
 use Rattle.device_model.specs.Moments.{uses, line_taken, client_due, LineDue}
-use Rattle.device_model.specs.Numbers.{Went, AreNumbers}
+use Rattle.device_model.specs.Numbers.{OutputBytes, AreNumbers}
 use Rattle.device_model.specs.Outcomes.{emitted_in_all}
 use Rattle.device_model.specs.Report.{Numbers}
 use Rattle.device_model.specs.Through.{Inputs, own_input}
@@ -75,7 +75,7 @@ pub record ClientOutLeft (plan : Plan) (inputs : Inputs) (x : Connection) (first
   pub place : last ≡ out_after_retire x.retire was
 
 -- to each output that the plan uses
-pub record OutputsLeft (plan : Plan) (inputs : Inputs) (first : BaysView) (written : Went)
+pub record OutputsLeft (plan : Plan) (inputs : Inputs) (first : BaysView) (written : OutputBytes)
     (last : BaysView) : Type 0 where
   pub line : (b : ℕ) → uses plan (port.LineOut b) ≡ true
       → LineOutLeft plan inputs b (line_out_at first b) (written.line b) (line_out_at last b)
@@ -108,9 +108,9 @@ pub record RunOf (plan : Plan) (first last : BaysView) (takings : Takings) (numb
   pub took : (a : ℕ) → uses plan (port.LineIn a) ≡ true → TookOf plan inputs takings a
   pub text : (x : Connection) (n : ℕ) → Contains plan.connections x → x.from ≡ from_end.Client n
       → TookOfText x (inputs.client n) (takings.client n)
-  pub went : Went
-  pub outputs : OutputsLeft plan inputs first went last
-  pub numbers_are : AreNumbers plan inputs went first last numbers
+  pub written : OutputBytes
+  pub outputs : OutputsLeft plan inputs first written last
+  pub numbers_are : AreNumbers plan inputs written first last numbers
 
 -- What a run of a plan leaves: these bytes were taken of its inputs, and for whatever these may turn out to be there is
 -- what went to its outputs, and these are its numbers. Each place that the plan does not use is as it was.

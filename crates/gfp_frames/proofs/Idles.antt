@@ -63,19 +63,19 @@ areas_idle (suc n) frames =
     ap areas_of (first_of_idles frames n) ∙ areas_idle n (frames ++ Idle ∷ []) ∙ areas-push frames Idle ∙ append-nil (areas_of frames)
 
 -- some bytes of the frame in hand
-pub some_given : (frames : List Frame) (given bytes : List ℕ) (old new : MakerState) → HasMade frames given old → bytes ++ new.hand ≡ old.hand → new.register ≡ old.register
-    → HasMade frames (given ++ bytes) new
-some_given frames given bytes old new made e same = record {
-  text = append_assoc given bytes new.hand ∙ ap (λ y. given ++ y) e ∙ made.text;
+pub some_given : (frames : List Frame) (emitted bytes : List ℕ) (old new : MakerState) → HasMade frames emitted old → bytes ++ new.hand ≡ old.hand → new.register ≡ old.register
+    → HasMade frames (emitted ++ bytes) new
+some_given frames emitted bytes old new made e same = record {
+  text = append_assoc emitted bytes new.hand ∙ ap (λ y. emitted ++ y) e ∙ made.text;
   last = same ∙ made.last;
 }
 
 -- the frame in hand, and then idle frames
-pub idles_given : (frames : List Frame) (given bytes : List ℕ) (old new : MakerState) (n : ℕ) → HasMade frames given old → bytes ++ new.hand ≡ old.hand ++ idle_bytes n → new.register ≡ old.register
-    → HasMade (frames ++ replicate n Idle) (given ++ bytes) new
-idles_given frames given bytes old new n made e same = record {
+pub idles_given : (frames : List Frame) (emitted bytes : List ℕ) (old new : MakerState) (n : ℕ) → HasMade frames emitted old → bytes ++ new.hand ≡ old.hand ++ idle_bytes n → new.register ≡ old.register
+    → HasMade (frames ++ replicate n Idle) (emitted ++ bytes) new
+idles_given frames emitted bytes old new n made e same = record {
   text =
-      append_assoc given bytes new.hand ∙ ap (λ y. given ++ y) e ∙ sym (append_assoc given old.hand (idle_bytes n))
+      append_assoc emitted bytes new.hand ∙ ap (λ y. emitted ++ y) e ∙ sym (append_assoc emitted old.hand (idle_bytes n))
       ∙ ap (λ y. y ++ idle_bytes n) made.text ∙ sym (text_idle n frames);
   last = same ∙ made.last ∙ ap (λ a. last_bits 0 (scrambled 0 a)) (sym (areas_idle n frames));
 }
@@ -109,15 +109,15 @@ idles_put s at k sixteen h size is whole before =
     )
 
 -- the front of what is left of a frame, and the rest of it
-pub front_given : (items new rest hand : List ℕ) (given count k : ℕ) → k ≡ count → given + count ≤ length items → drop given items ≡ hand → new ≡ take k (drop given items) ++ rest
-    → take count new ++ drop (given + count) items ≡ hand
-front_given items new rest hand given count k same within is e =
-    let part = take count (drop given items) in
-    let size : length part ≡ count = length-take-le count (drop given items) (let d = length-drop given items in omega arith) in
-    ap (λ y. take count y ++ drop (given + count) items) (e ∙ ap (λ n. take n (drop given items) ++ rest) same)
-    ∙ ap (λ y. y ++ drop (given + count) items) (take_at part rest count size)
-    ∙ ap (λ y. part ++ y) (sym (drop-drop count given items))
-    ∙ take-append-drop count (drop given items)
+pub front_given : (items new rest hand : List ℕ) (emitted count k : ℕ) → k ≡ count → emitted + count ≤ length items → drop emitted items ≡ hand → new ≡ take k (drop emitted items) ++ rest
+    → take count new ++ drop (emitted + count) items ≡ hand
+front_given items new rest hand emitted count k same within is e =
+    let part = take count (drop emitted items) in
+    let size : length part ≡ count = length-take-le count (drop emitted items) (let d = length-drop emitted items in omega arith) in
+    ap (λ y. take count y ++ drop (emitted + count) items) (e ∙ ap (λ n. take n (drop emitted items) ++ rest) same)
+    ∙ ap (λ y. y ++ drop (emitted + count) items) (take_at part rest count size)
+    ∙ ap (λ y. part ++ y) (sym (drop-drop count emitted items))
+    ∙ take-append-drop count (drop emitted items)
     ∙ is
 
 -- ---- parts of a slice
@@ -147,13 +147,13 @@ idle_end whole_frames others ys hand n whole count is part size idles rest all l
     ∙ ap idle_bytes (let e : suc (whole / 4) ≡ (n + 3) / 4 = omega arith in e)
 
 -- the frame in hand to its end, and idle frames after it
-pub filled : (frames : List Frame) (given : List ℕ) (old mid new : MakerState) (into rest : List ℕ) (n count m : ℕ) → HasMade frames given old
+pub filled : (frames : List Frame) (emitted : List ℕ) (old mid new : MakerState) (into rest : List ℕ) (n count m : ℕ) → HasMade frames emitted old
     → count ≡ min (length old.hand) n → count < n → length into ≡ n → take count into ++ mid.hand ≡ old.hand → mid.register ≡ old.register
     → m ≡ n - count → rest ++ new.hand ≡ idle_bytes ((m + 3) / 4) → new.register ≡ mid.register
-    → HasMade (frames ++ replicate (idles_begun old.hand n) Idle) (given ++ put_mid count (length into - count) into rest) new
-filled frames given old mid new into rest n count m made is short size front same left idles same_too =
+    → HasMade (frames ++ replicate (idles_begun old.hand n) Idle) (emitted ++ put_mid count (length into - count) into rest) new
+filled frames emitted old mid new into rest n count m made is short size front same left idles same_too =
     let given_all : count ≡ length old.hand = omega arith in
-    let taken : length (take count into) ≡ count = length-take-le count into (omega arith) in
+    let read : length (take count into) ≡ count = length-take-le count into (omega arith) in
     let none : mid.hand ≡ [] = none_of_length mid.hand (let e = length-append (take count into) mid.hand in let f = ap length front in omega arith) in
     let hand : take count into ≡ old.hand = sym (append-nil (take count into)) ∙ ap (λ y. take count into ++ y) (sym none) ∙ front in
     let bytes : put_mid count (length into - count) into rest ++ new.hand ≡ old.hand ++ idle_bytes (idles_begun old.hand n) =
@@ -161,7 +161,7 @@ filled frames given old mid new into rest n count m made is short size front sam
     ∙ append_assoc old.hand rest new.hand
     ∙ ap (λ y. old.hand ++ y) idles
     ∙ ap (λ k. old.hand ++ idle_bytes ((k + 3) / 4)) (left ∙ ap (λ k. n - k) given_all) in
-    idles_given frames given (put_mid count (length into - count) into rest) old new (idles_begun old.hand n) made bytes (same_too ∙ same)
+    idles_given frames emitted (put_mid count (length into - count) into rest) old new (idles_begun old.hand n) made bytes (same_too ∙ same)
 
 -- the front of some idle frames, in whole frames
 idles_front : (n m : ℕ) → m ≤ n → take (4 * m) (idle_bytes n) ≡ idle_bytes m

@@ -12,9 +12,9 @@ use Rattle.gfp_frames.specs.Steps.Reader.{Goes, GoesOver, GoesTo, NoneBefore}
 use Rattle.gfp_frames.proofs.Reading.{delivered_is, packets-append, found_on, reads_on}
 
 -- nothing comes of itself
-pub rests : (taken : List ℕ) (s : ReaderState) → HasRead taken s → to_come s [] ≡ []
-rests taken s has = append_cancel_left (areas_in taken) (to_come s []) []
-    (sym (has.whole []) ∙ ap areas_in (append-nil taken) ∙ sym (append-nil (areas_in taken)))
+pub rests : (read : List ℕ) (s : ReaderState) → HasRead read s → to_come s [] ≡ []
+rests read s has = append_cancel_left (areas_in read) (to_come s []) []
+    (sym (has.whole []) ∙ ap areas_in (append-nil read) ∙ sym (append-nil (areas_in read)))
 
 -- ---- one after another
 
@@ -103,22 +103,22 @@ lent_size area got size most same some few within =
 
 -- ---- histories
 
-pub delivered_on : (taken bytes : List ℕ) (old new : ReaderState) (packet : Option (List ℕ)) → HasRead taken old → GoesTo old bytes packet new → delivered (taken ++ bytes) ≡ delivered taken ++ option_to_list packet
-delivered_on taken bytes old new packet has goes =
-    delivered_is (taken ++ bytes)
-    ∙ ap packets_in (found_on taken bytes old new goes.areas has goes.each (goes.none (rests taken old has)))
-    ∙ packets-append (areas_in taken) goes.areas
-    ∙ ap (λ y. packets_in (areas_in taken) ++ y) goes.packets
-    ∙ ap (λ y. y ++ option_to_list packet) (sym (delivered_is taken))
+pub delivered_on : (read bytes : List ℕ) (old new : ReaderState) (packet : Option (List ℕ)) → HasRead read old → GoesTo old bytes packet new → delivered (read ++ bytes) ≡ delivered read ++ option_to_list packet
+delivered_on read bytes old new packet has goes =
+    delivered_is (read ++ bytes)
+    ∙ ap packets_in (found_on read bytes old new goes.areas has goes.each (goes.none (rests read old has)))
+    ∙ packets-append (areas_in read) goes.areas
+    ∙ ap (λ y. packets_in (areas_in read) ++ y) goes.packets
+    ∙ ap (λ y. y ++ option_to_list packet) (sym (delivered_is read))
 
-pub has_read_on : (taken bytes : List ℕ) (old new : ReaderState) (packet : Option (List ℕ)) → HasRead taken old → GoesTo old bytes packet new → HasRead (taken ++ bytes) new
-has_read_on taken bytes old new packet has goes = reads_on taken bytes old new goes.areas has goes.each (goes.none (rests taken old has))
+pub has_read_on : (read bytes : List ℕ) (old new : ReaderState) (packet : Option (List ℕ)) → HasRead read old → GoesTo old bytes packet new → HasRead (read ++ bytes) new
+has_read_on read bytes old new packet has goes = reads_on read bytes old new goes.areas has goes.each (goes.none (rests read old has))
 
-pub none_delivered : (taken bytes : List ℕ) (old : ReaderState) → HasRead taken old → packets_in (to_come old bytes) ≡ [] → delivered (taken ++ bytes) ≡ delivered taken
-none_delivered taken bytes old has none =
-    delivered_is (taken ++ bytes)
+pub none_delivered : (read bytes : List ℕ) (old : ReaderState) → HasRead read old → packets_in (to_come old bytes) ≡ [] → delivered (read ++ bytes) ≡ delivered read
+none_delivered read bytes old has none =
+    delivered_is (read ++ bytes)
     ∙ ap packets_in (has.whole bytes)
-    ∙ packets-append (areas_in taken) (to_come old bytes)
-    ∙ ap (λ y. packets_in (areas_in taken) ++ y) none
-    ∙ append-nil (packets_in (areas_in taken))
-    ∙ sym (delivered_is taken)
+    ∙ packets-append (areas_in read) (to_come old bytes)
+    ∙ ap (λ y. packets_in (areas_in read) ++ y) none
+    ∙ append-nil (packets_in (areas_in read))
+    ∙ sym (delivered_is read)

@@ -264,17 +264,17 @@ pub packets-append : (xs ys : List (List ℕ)) → packets_in (xs ++ ys) ≡ pac
 packets-append xs ys = flat_map-append (λ area. option_to_list (packet_in area)) xs ys
 
 -- bytes in which these areas are found
-pub found_on : (taken bytes : List ℕ) (old new : ReaderState) (areas : List (List ℕ)) → HasRead taken old → ((more : List ℕ) → to_come old (bytes ++ more) ≡ areas ++ to_come new more) → to_come new [] ≡ []
-    → areas_in (taken ++ bytes) ≡ areas_in taken ++ areas
-found_on taken bytes old new areas has each none =
-    has.whole bytes ∙ ap (λ y. areas_in taken ++ y) (ap (to_come old) (sym (append-nil bytes)) ∙ each [] ∙ ap (λ y. areas ++ y) none ∙ append-nil areas)
+pub found_on : (read bytes : List ℕ) (old new : ReaderState) (areas : List (List ℕ)) → HasRead read old → ((more : List ℕ) → to_come old (bytes ++ more) ≡ areas ++ to_come new more) → to_come new [] ≡ []
+    → areas_in (read ++ bytes) ≡ areas_in read ++ areas
+found_on read bytes old new areas has each none =
+    has.whole bytes ∙ ap (λ y. areas_in read ++ y) (ap (to_come old) (sym (append-nil bytes)) ∙ each [] ∙ ap (λ y. areas ++ y) none ∙ append-nil areas)
 
-pub reads_on : (taken bytes : List ℕ) (old new : ReaderState) (areas : List (List ℕ)) → HasRead taken old → ((more : List ℕ) → to_come old (bytes ++ more) ≡ areas ++ to_come new more) → to_come new [] ≡ []
-    → HasRead (taken ++ bytes) new
-reads_on taken bytes old new areas has each none = record {
+pub reads_on : (read bytes : List ℕ) (old new : ReaderState) (areas : List (List ℕ)) → HasRead read old → ((more : List ℕ) → to_come old (bytes ++ more) ≡ areas ++ to_come new more) → to_come new [] ≡ []
+    → HasRead (read ++ bytes) new
+reads_on read bytes old new areas has each none = record {
   whole = λ more.
-      ap areas_in (append_assoc taken bytes more) ∙ has.whole (bytes ++ more) ∙ ap (λ y. areas_in taken ++ y) (each more)
-      ∙ sym (append_assoc (areas_in taken) areas (to_come new more)) ∙ ap (λ y. y ++ to_come new more) (sym (found_on taken bytes old new areas has each none));
+      ap areas_in (append_assoc read bytes more) ∙ has.whole (bytes ++ more) ∙ ap (λ y. areas_in read ++ y) (each more)
+      ∙ sym (append_assoc (areas_in read) areas (to_come new more)) ∙ ap (λ y. y ++ to_come new more) (sym (found_on read bytes old new areas has each none));
 }
 
 pub begins_at : (reader : ReaderState) (register : ℕ) → reader ≡ record { phase = Hunt; wanted = 4; held = []; register = register; area = [] } → register ≡ 0 → HasRead [] reader

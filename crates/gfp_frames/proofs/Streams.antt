@@ -64,9 +64,9 @@ take-stream frames i n enough =
     ]
     ∙ ap (take n) (sym (text-idles n frames))
 
-pub given_is_stream : (packets : List (List ℕ)) (fcs : Bool) (count : ℕ) (given : List ℕ) (maker : MakerState) → HasMade (stream_frames packets fcs count) given maker → given ≡ gfp_text packets fcs (length given)
+pub given_is_stream : (packets : List (List ℕ)) (fcs : Bool) (count : ℕ) (emitted : List ℕ) (maker : MakerState) → HasMade (stream_frames packets fcs count) emitted maker → emitted ≡ gfp_text packets fcs (length emitted)
 unfolding gfp_text
-given_is_stream packets fcs count given maker made =
+given_is_stream packets fcs count emitted maker made =
     let frames = Idle ∷ map (λ packet. Client packet fcs) packets in
-    let enough : length given ≤ length (text_of (frames ++ replicate count Idle)) = (let e = ap length (sym made.text) in let l = length-append given maker.hand in omega arith) in
-    sym (take-append_seam given maker.hand) ∙ ap (take (length given)) made.text ∙ take-stream frames count (length given) enough
+    let enough : length emitted ≤ length (text_of (frames ++ replicate count Idle)) = (let e = ap length (sym made.text) in let l = length-append emitted maker.hand in omega arith) in
+    sym (take-append_seam emitted maker.hand) ∙ ap (take (length emitted)) made.text ∙ take-stream frames count (length emitted) enough

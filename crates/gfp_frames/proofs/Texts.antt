@@ -66,15 +66,15 @@ last-push frames frame =
     ∙ last_bits-append 0 (scrambled 0 (areas_of frames)) (scrambled (last_bits 0 (scrambled 0 (areas_of frames))) (area_of frame))
 
 -- a maker with nothing in hand that begins a frame
-pub frame_made : (frames : List Frame) (frame : Frame) (given : List ℕ) (old new : MakerState) → HasMade frames given old → old.hand ≡ [] → new ≡ made_frame (area_of frame) old.register
-    → HasMade (frames ++ frame ∷ []) given new
-frame_made frames frame given old new made none is =
-    let all : given ≡ text_of frames = sym (append-nil given) ∙ ap (λ y. given ++ y) (sym none) ∙ made.text in
+pub frame_made : (frames : List Frame) (frame : Frame) (emitted : List ℕ) (old new : MakerState) → HasMade frames emitted old → old.hand ≡ [] → new ≡ made_frame (area_of frame) old.register
+    → HasMade (frames ++ frame ∷ []) emitted new
+frame_made frames frame emitted old new made none is =
+    let all : emitted ≡ text_of frames = sym (append-nil emitted) ∙ ap (λ y. emitted ++ y) (sym none) ∙ made.text in
     let r = last_bits 0 (scrambled 0 (areas_of frames)) in
     let same : made_frame (area_of frame) old.register ≡ made_frame (area_of frame) r = ap (made_frame (area_of frame)) made.last in
     let now : new ≡ made_frame (area_of frame) r = is ∙ same in
     record {
-      text = ap (λ m. given ++ m.hand) now ∙ ap (λ g. g ++ (core_header (length (area_of frame)) ++ scrambled r (area_of frame))) all ∙ sym (text-push frames frame);
+      text = ap (λ m. emitted ++ m.hand) now ∙ ap (λ g. g ++ (core_header (length (area_of frame)) ++ scrambled r (area_of frame))) all ∙ sym (text-push frames frame);
       last = ap (λ m. m.register) now ∙ sym (last-push frames frame);
     }
 
@@ -86,35 +86,35 @@ fresh_made maker is = record {
 }
 
 -- the next byte of what is in hand
-given_on : (given : List ℕ) (byte : ℕ) (rest hand : List ℕ) → byte ∷ rest ≡ hand → (given ++ byte ∷ []) ++ rest ≡ given ++ hand
-given_on given byte rest hand e = append_assoc given (byte ∷ []) rest ∙ ap (λ y. given ++ y) e
+given_on : (emitted : List ℕ) (byte : ℕ) (rest hand : List ℕ) → byte ∷ rest ≡ hand → (emitted ++ byte ∷ []) ++ rest ≡ emitted ++ hand
+given_on emitted byte rest hand e = append_assoc emitted (byte ∷ []) rest ∙ ap (λ y. emitted ++ y) e
 
 none_scrambled : (r : ℕ) → made_frame [] r ≡ record { hand = core_header 0; register = r }
 unfolding scrambled last_bits core_header
 none_scrambled r = refl
 
-pub idle_made : (frames : List Frame) (given : List ℕ) (old new : MakerState) → HasMade frames given old → old.hand ≡ [] → new ≡ record old { hand = core_header 0 } → HasMade (frames ++ Idle ∷ []) given new
-idle_made frames given old new made none is = frame_made frames Idle given old new made none (is ∙ sym (none_scrambled old.register))
+pub idle_made : (frames : List Frame) (emitted : List ℕ) (old new : MakerState) → HasMade frames emitted old → old.hand ≡ [] → new ≡ record old { hand = core_header 0 } → HasMade (frames ++ Idle ∷ []) emitted new
+idle_made frames emitted old new made none is = frame_made frames Idle emitted old new made none (is ∙ sym (none_scrambled old.register))
 
-byte_given_at : (hand : List ℕ) (frames : List Frame) (given : List ℕ) (byte : ℕ) (old new : MakerState) → old.hand ≡ hand → HasMade frames given old → byte ∷ new.hand ≡ in_hand hand
-    → new.register ≡ old.register → HasMade (frames ++ begun hand) (given ++ byte ∷ []) new
-byte_given_at [] frames given byte old new none made next same =
+byte_given_at : (hand : List ℕ) (frames : List Frame) (emitted : List ℕ) (byte : ℕ) (old new : MakerState) → old.hand ≡ hand → HasMade frames emitted old → byte ∷ new.hand ≡ in_hand hand
+    → new.register ≡ old.register → HasMade (frames ++ begun hand) (emitted ++ byte ∷ []) new
+byte_given_at [] frames emitted byte old new none made next same =
     let idle : MakerState = record { hand = core_header 0; register = old.register } in
-    let now : HasMade (frames ++ Idle ∷ []) given idle = frame_made frames Idle given old idle made none (sym (none_scrambled old.register)) in
+    let now : HasMade (frames ++ Idle ∷ []) emitted idle = frame_made frames Idle emitted old idle made none (sym (none_scrambled old.register)) in
     record {
-      text = given_on given byte new.hand (core_header 0) next ∙ now.text;
+      text = given_on emitted byte new.hand (core_header 0) next ∙ now.text;
       last = same ∙ now.last;
     }
-byte_given_at (x ∷ hand) frames given byte old new some made next same =
+byte_given_at (x ∷ hand) frames emitted byte old new some made next same =
     let none : frames ++ [] ≡ frames = append-nil frames in
     record {
-      text = given_on given byte new.hand (x ∷ hand) next ∙ ap (λ y. given ++ y) (sym some) ∙ made.text ∙ ap text_of (sym none);
+      text = given_on emitted byte new.hand (x ∷ hand) next ∙ ap (λ y. emitted ++ y) (sym some) ∙ made.text ∙ ap text_of (sym none);
       last = same ∙ made.last ∙ ap (λ f. last_bits 0 (scrambled 0 (areas_of f))) (sym none);
     }
 
-pub byte_given : (frames : List Frame) (given : List ℕ) (byte : ℕ) (old new : MakerState) → HasMade frames given old → byte ∷ new.hand ≡ in_hand old.hand → new.register ≡ old.register
-    → HasMade (frames ++ begun old.hand) (given ++ byte ∷ []) new
-byte_given frames given byte old new made next same = byte_given_at old.hand frames given byte old new refl made next same
+pub byte_given : (frames : List Frame) (emitted : List ℕ) (byte : ℕ) (old new : MakerState) → HasMade frames emitted old → byte ∷ new.hand ≡ in_hand old.hand → new.register ≡ old.register
+    → HasMade (frames ++ begun old.hand) (emitted ++ byte ∷ []) new
+byte_given frames emitted byte old new made next same = byte_given_at old.hand frames emitted byte old new refl made next same
 
 -- ---- sizes
 

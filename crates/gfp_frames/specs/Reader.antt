@@ -36,8 +36,8 @@ to_come reader more = plain_areas reader.register (areas_from reader.phase reade
 
 -- The reader took these bytes since its start: whatever comes, the areas of the whole list are those of these bytes,
 -- and those that the reader has yet to find.
-pub record HasRead (taken : List ℕ) (reader : ReaderState) : Type 0 where
-  pub whole : (more : List ℕ) → areas_in (taken ++ more) ≡ areas_in taken ++ to_come reader more
+pub record HasRead (read : List ℕ) (reader : ReaderState) : Type 0 where
+  pub whole : (more : List ℕ) → areas_in (read ++ more) ≡ areas_in read ++ to_come reader more
 
 -- ---- steps of the reader
 

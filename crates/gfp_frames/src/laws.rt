@@ -4,7 +4,7 @@ ghost use Rattle.crc_small.specs.Header.{IsRightHeader, IsWithinOneBit};
 ghost use Rattle.gfp_scrambler.specs.BitList.{AreBytes, IsScrambled, IsDescrambled};
 ghost use Rattle.gfp_frames.specs.CoreHeader.{near_pli};
 ghost use Rattle.gfp_frames.specs.GfpText.{Frame, Idle, areas_of, laid_out, text_of, gfp_text, stream_frames};
-ghost use Rattle.gfp_frames.specs.Maker.{MakerState, HasMade};
+ghost use Rattle.gfp_frames.specs.Maker.{OfMade};
 ghost use Rattle.gfp_frames.specs.Delineation.{sync_areas};
 ghost use Rattle.gfp_frames.specs.Delivered.{joined, cut_as, packets_in, areas_in, delivered};
 ghost use Rattle.gfp_frames.specs.Places.{AreFramesInSync, areas_at};
@@ -33,8 +33,8 @@ pub fn areas_stay()
 /// What a maker gives is the client's stream, where packets are offered without a gap after the first
 /// idle frame, and then none.
 pub fn made_is_the_stream()
-    ensures { (packets : List (List ℕ)) (fcs : Bool) (idles : ℕ) (given : List ℕ) (maker : MakerState) →
-        HasMade (stream_frames packets fcs idles) given maker → given ≡ gfp_text packets fcs (length given) }
+    ensures { (packets : List (List ℕ)) (fcs : Bool) (idles : ℕ) → OfMade (stream_frames packets fcs idles)
+        (λ emitted. emitted ≡ gfp_text packets fcs (length emitted)) }
 {}
 
 /// The areas that are delivered from are, in order, those of the frames in sync that lie whole in the

@@ -31,7 +31,7 @@ pub struct GfpMaker {
     scrambler: Scrambler,
     // The frame in hand, and how many of its bytes were given.
     frame: Vec<u8>,
-    given: usize,
+    emitted: usize,
 }
 
 impl Model for GfpMaker {
@@ -41,9 +41,9 @@ impl Model for GfpMaker {
 
     ghost Value = { MakerState };
 
-    ghost view = { λ m. record { hand = drop m.given m.frame.items; register = m.scrambler } };
+    ghost view = { λ m. record { hand = drop m.emitted m.frame.items; register = m.scrambler } };
 
-    ghost invariant = { λ m. (m.given ≤ vec_len m.frame) × (65539 ≤ vec_capacity m.frame) };
+    ghost invariant = { λ m. (m.emitted ≤ vec_len m.frame) × (65539 ≤ vec_capacity m.frame) };
 }
 
 impl GfpMaker {
@@ -55,7 +55,7 @@ impl GfpMaker {
         let mut maker = GfpMaker {
             scrambler: Scrambler::new(),
             frame: Vec::with_capacity(alloc, MOST_FRAME)?,
-            given: 0,
+            emitted: 0,
         };
         maker.put_idle();
         Ok(maker)
@@ -74,15 +74,15 @@ impl GfpMaker {
     pub fn idle(&self) -> bool
         ensures { IsTrue result ↔ (self.now.hand ≡ []) }
     {
-        self.given >= self.frame.len()
+        self.emitted >= self.frame.len()
     }
 
     /// Takes the frame of a packet of 1 to 65,527 bytes in hand, with or without FCS.
     pub fn offer(&mut self, packet: &[u8], fcs: bool)
         requires idle { self.old.hand ≡ [] }
         requires packet { (1 ≤ length packet.now) × (length packet.now ≤ 65527) }
-        ensures made { (frames : List Frame) (given : List ℕ) → HasMade frames given self.old →
-            HasMade (frames ++ Client packet.now fcs ∷ []) given self.new }
+        ensures made { (frames : List Frame) (emitted : List ℕ) → HasMade frames emitted self.old →
+            HasMade (frames ++ Client packet.now fcs ∷ []) emitted self.new }
         ensures frame { self.new ≡ made_frame (client_area packet.now fcs) self.old.register }
     {
         self.put_frame(packet, fcs);
@@ -92,8 +92,8 @@ impl GfpMaker {
     pub fn offer_area(&mut self, area: &[u8])
         requires idle { self.old.hand ≡ [] }
         requires area { (4 ≤ length area.now) × (length area.now ≤ 65535) }
-        ensures made { (frames : List Frame) (given : List ℕ) → HasMade frames given self.old →
-            HasMade (frames ++ WithArea area.now ∷ []) given self.new }
+        ensures made { (frames : List Frame) (emitted : List ℕ) → HasMade frames emitted self.old →
+            HasMade (frames ++ WithArea area.now ∷ []) emitted self.new }
         ensures frame { self.new ≡ made_frame area.now self.old.register }
     {
         self.put_area(area);
@@ -102,8 +102,8 @@ impl GfpMaker {
     /// Takes an idle frame in hand (G.7041 clause 6.2.1).
     pub fn offer_idle(&mut self)
         requires { self.old.hand ≡ [] }
-        ensures made { (frames : List Frame) (given : List ℕ) → HasMade frames given self.old →
-            HasMade (frames ++ Idle ∷ []) given self.new }
+        ensures made { (frames : List Frame) (emitted : List ℕ) → HasMade frames emitted self.old →
+            HasMade (frames ++ Idle ∷ []) emitted self.new }
         ensures frame { self.new ≡ record self.old { hand = core_header 0 } }
     {
         self.put_idle();
@@ -111,8 +111,8 @@ impl GfpMaker {
 
     /// The next byte of the stream. Where no frame is in hand an idle frame begins.
     pub fn next_byte(&mut self) -> u8
-        ensures made { (frames : List Frame) (given : List ℕ) → HasMade frames given self.old →
-            HasMade (frames ++ begun self.old.hand) (given ++ result ∷ []) self.new }
+        ensures made { (frames : List Frame) (emitted : List ℕ) → HasMade frames emitted self.old →
+            HasMade (frames ++ begun self.old.hand) (emitted ++ result ∷ []) self.new }
         ensures byte { result ∷ self.new.hand ≡ in_hand self.old.hand }
         ensures register { self.new.register ≡ self.old.register }
     {
@@ -123,23 +123,23 @@ impl GfpMaker {
     /// The next bytes of the frame in hand, as many as there is room for: how many. Where no frame is in hand it
     /// gives none, and a packet may be offered.
     pub fn give(&mut self, into: &mut [u8]) -> usize
-        ensures made { (frames : List Frame) (given : List ℕ) → HasMade frames given self.old →
-            HasMade frames (given ++ take result into.new) self.new }
+        ensures made { (frames : List Frame) (emitted : List ℕ) → HasMade frames emitted self.old →
+            HasMade frames (emitted ++ take result into.new) self.new }
         ensures count { result ≡ min (length self.old.hand) (length into.old) }
         ensures bytes { take result into.new ++ self.new.hand ≡ self.old.hand }
         ensures register { self.new.register ≡ self.old.register }
         ensures others { drop result into.new ≡ drop result into.old }
     {
-        let count = into.len().min(self.frame.len() - self.given);
-        copy_front(into, &self.frame[self.given..self.given + count]);
-        self.given += count;
+        let count = into.len().min(self.frame.len() - self.emitted);
+        copy_front(into, &self.frame[self.emitted..self.emitted + count]);
+        self.emitted += count;
         count
     }
 
     /// The next bytes of the stream, as many as the slice has: the frame in hand, and then idle frames.
     pub fn fill(&mut self, into: &mut [u8])
-        ensures made { (frames : List Frame) (given : List ℕ) → HasMade frames given self.old →
-            HasMade (frames ++ replicate (idles_begun self.old.hand (length into.old)) Idle) (given ++ into.new) self.new }
+        ensures made { (frames : List Frame) (emitted : List ℕ) → HasMade frames emitted self.old →
+            HasMade (frames ++ replicate (idles_begun self.old.hand (length into.old)) Idle) (emitted ++ into.new) self.new }
         ensures bytes { into.new ++ self.new.hand ≡ self.old.hand
             ++ idle_bytes (idles_begun self.old.hand (length into.old)) }
         ensures register { self.new.register ≡ self.old.register }
@@ -166,7 +166,7 @@ impl GfpMaker {
     fn put_idle(&mut self)
         ensures { self.new ≡ record self.old { hand = core_header 0 } }
     {
-        self.given = 0;
+        self.emitted = 0;
         self.frame.clear();
         append(&mut self.frame, &header_bytes(0));
     }
@@ -177,7 +177,7 @@ impl GfpMaker {
         ensures { self.new ≡ made_frame (client_area packet.now fcs) self.old.register }
     {
         let rest = if fcs { 8 } else { 4 };
-        self.given = 0;
+        self.emitted = 0;
         self.frame.clear();
         append(&mut self.frame, &header_bytes((packet.len() + rest) as u16));
         append_client_area(&mut self.frame, packet, fcs);
@@ -189,7 +189,7 @@ impl GfpMaker {
         requires { (4 ≤ length area.now) × (length area.now ≤ 65535) }
         ensures { self.new ≡ made_frame area.now self.old.register }
     {
-        self.given = 0;
+        self.emitted = 0;
         self.frame.clear();
         append(&mut self.frame, &header_bytes(area.len() as u16));
         append(&mut self.frame, area);
@@ -201,8 +201,8 @@ impl GfpMaker {
         ensures byte { self.old.hand ≡ result ∷ self.new.hand }
         ensures register { self.new.register ≡ self.old.register }
     {
-        let byte = self.frame[self.given];
-        self.given += 1;
+        let byte = self.frame[self.emitted];
+        self.emitted += 1;
         byte
     }
 

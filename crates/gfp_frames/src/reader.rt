@@ -85,8 +85,8 @@ impl GfpReader {
     pub fn take(&mut self, byte: u8) -> Option<&[u8]>
         // Of every list of bytes since the start the packets are those that the list delivers.
         ensures* read { sem 𝓛 (EndsHavingRead self.entry byte) }
-        ensures packets { (taken : List ℕ) → HasRead taken self.old →
-            delivered (taken ++ byte ∷ []) ≡ delivered taken ++ option_to_list (option_copied result) }
+        ensures packets { (read : List ℕ) → HasRead read self.old →
+            delivered (read ++ byte ∷ []) ≡ delivered read ++ option_to_list (option_copied result) }
         ensures size { IfSome result (λ packet. (1 ≤ length packet.now) × (length packet.now ≤ MOST_DELIVERED)) }
     {
         match self.find_packet_at(byte) {
@@ -99,10 +99,10 @@ impl GfpReader {
     pub fn take_some(&mut self, bytes: &[u8]) -> (usize, Option<&[u8]>)
         // Of every list of bytes since the start the packets are those that the list delivers, each with its last byte.
         ensures* read { sem 𝓛 (EndsHavingReadAll self.entry (take result.0 bytes.now)) }
-        ensures packets { (taken : List ℕ) → HasRead taken self.old →
-            delivered (taken ++ take result.0 bytes.now) ≡ delivered taken ++ option_to_list (option_copied result.1) }
-        ensures none_before { (taken : List ℕ) (k : ℕ) → HasRead taken self.old → k < result.0 →
-            delivered (taken ++ take k bytes.now) ≡ delivered taken }
+        ensures packets { (read : List ℕ) → HasRead read self.old →
+            delivered (read ++ take result.0 bytes.now) ≡ delivered read ++ option_to_list (option_copied result.1) }
+        ensures none_before { (read : List ℕ) (k : ℕ) → HasRead read self.old → k < result.0 →
+            delivered (read ++ take k bytes.now) ≡ delivered read }
         ensures within { result.0 ≤ length bytes.now }
         ensures all { IsNone result.1 → result.0 ≡ length bytes.now }
         ensures some { 1 ≤ length bytes.now → 1 ≤ result.0 }
@@ -119,8 +119,8 @@ impl GfpReader {
     pub fn take_area(&mut self, byte: u8) -> Option<&[u8]>
         // Of every list of bytes since the start the areas are those of the list.
         ensures* read { sem 𝓛 (EndsHavingRead self.entry byte) }
-        ensures areas { (taken : List ℕ) → HasRead taken self.old →
-            areas_in (taken ++ byte ∷ []) ≡ areas_in taken ++ option_to_list (option_copied result) }
+        ensures areas { (read : List ℕ) → HasRead read self.old →
+            areas_in (read ++ byte ∷ []) ≡ areas_in read ++ option_to_list (option_copied result) }
         ensures size { IfSome result (λ area. (4 ≤ length area.now) × (length area.now ≤ 65535)) }
     {
         if self.advance(byte) {
@@ -135,10 +135,10 @@ impl GfpReader {
     pub fn take_some_area(&mut self, bytes: &[u8]) -> (usize, Option<&[u8]>)
         // Of every list of bytes since the start the areas are those of the list, each with its last byte.
         ensures* read { sem 𝓛 (EndsHavingReadAll self.entry (take result.0 bytes.now)) }
-        ensures areas { (taken : List ℕ) → HasRead taken self.old →
-            areas_in (taken ++ take result.0 bytes.now) ≡ areas_in taken ++ option_to_list (option_copied result.1) }
-        ensures none_before { (taken : List ℕ) (k : ℕ) → HasRead taken self.old → k < result.0 →
-            areas_in (taken ++ take k bytes.now) ≡ areas_in taken }
+        ensures areas { (read : List ℕ) → HasRead read self.old →
+            areas_in (read ++ take result.0 bytes.now) ≡ areas_in read ++ option_to_list (option_copied result.1) }
+        ensures none_before { (read : List ℕ) (k : ℕ) → HasRead read self.old → k < result.0 →
+            areas_in (read ++ take k bytes.now) ≡ areas_in read }
         ensures within { result.0 ≤ length bytes.now }
         ensures all { IsNone result.1 → result.0 ≡ length bytes.now }
         ensures some { 1 ≤ length bytes.now → 1 ≤ result.0 }
@@ -156,11 +156,11 @@ impl GfpReader {
     /// As `take_some_area`, but for the area itself, which `area` gives: how many bytes, and whether an area ends with
     /// the last of them.
     pub fn find_area(&mut self, bytes: &[u8]) -> (usize, bool)
-        ensures read { (taken : List ℕ) → HasRead taken self.old → HasRead (taken ++ take result.0 bytes.now) self.new }
-        ensures areas { (taken : List ℕ) → HasRead taken self.old →
-            areas_in (taken ++ take result.0 bytes.now) ≡ areas_in taken ++ news result.1 self.new }
-        ensures none_before { (taken : List ℕ) (k : ℕ) → HasRead taken self.old → k < result.0 →
-            areas_in (taken ++ take k bytes.now) ≡ areas_in taken }
+        ensures read { (read : List ℕ) → HasRead read self.old → HasRead (read ++ take result.0 bytes.now) self.new }
+        ensures areas { (read : List ℕ) → HasRead read self.old →
+            areas_in (read ++ take result.0 bytes.now) ≡ areas_in read ++ news result.1 self.new }
+        ensures none_before { (read : List ℕ) (k : ℕ) → HasRead read self.old → k < result.0 →
+            areas_in (read ++ take k bytes.now) ≡ areas_in read }
         ensures within { result.0 ≤ length bytes.now }
         ensures all { result.1 ≡ false → result.0 ≡ length bytes.now }
         ensures some { 1 ≤ length bytes.now → 1 ≤ result.0 }

@@ -19,12 +19,12 @@ pub arrivals-append : (xs ys : List (List ℕ)) → arrivals_in (xs ++ ys) ≡ a
 arrivals-append xs ys = flat_map-append (λ area. option_to_list (arrival_in area)) xs ys
 
 -- bytes in which these areas are found
-pub arrived_on : (taken whole : List ℕ) (areas : List (List ℕ)) → areas_in whole ≡ areas_in taken ++ areas → channel_arrivals whole ≡ channel_arrivals taken ++ arrivals_in areas
-arrived_on taken whole areas e =
-    arrivals_are whole ∙ ap arrivals_in e ∙ arrivals-append (areas_in taken) areas ∙ ap (λ y. y ++ arrivals_in areas) (sym (arrivals_are taken))
+pub arrived_on : (read whole : List ℕ) (areas : List (List ℕ)) → areas_in whole ≡ areas_in read ++ areas → channel_arrivals whole ≡ channel_arrivals read ++ arrivals_in areas
+arrived_on read whole areas e =
+    arrivals_are whole ∙ ap arrivals_in e ∙ arrivals-append (areas_in read) areas ∙ ap (λ y. y ++ arrivals_in areas) (sym (arrivals_are read))
 
-pub none_arrived : (taken whole : List ℕ) → areas_in whole ≡ areas_in taken → channel_arrivals whole ≡ channel_arrivals taken
-none_arrived taken whole e = arrivals_are whole ∙ ap arrivals_in e ∙ sym (arrivals_are taken)
+pub none_arrived : (read whole : List ℕ) → areas_in whole ≡ areas_in read → channel_arrivals whole ≡ channel_arrivals read
+none_arrived read whole e = arrivals_are whole ∙ ap arrivals_in e ∙ sym (arrivals_are read)
 
 -- what arrives with an area that was found
 pub one_news : (new : ReaderState) → arrivals_in (news true new) ≡ option_to_list (arrival_in new.area)
@@ -38,15 +38,15 @@ no_arrival (Some x) e = absurd (false≢true (sym e))
 
 -- Over the first bytes of these the reader went on, and nothing arrived.
 pub record Passed (bytes : List ℕ) (old : ReaderState) (at : ℕ) (new : ReaderState) : Type 0 where
-  pub read : (taken : List ℕ) → HasRead taken old → HasRead (taken ++ take at bytes) new
-  pub none : (taken : List ℕ) → HasRead taken old → channel_arrivals (taken ++ take at bytes) ≡ channel_arrivals taken
-  pub before : (taken : List ℕ) (k : ℕ) → HasRead taken old → k < at → channel_arrivals (taken ++ take k bytes) ≡ channel_arrivals taken
+  pub has_read : (read : List ℕ) → HasRead read old → HasRead (read ++ take at bytes) new
+  pub none : (read : List ℕ) → HasRead read old → channel_arrivals (read ++ take at bytes) ≡ channel_arrivals read
+  pub before : (read : List ℕ) (k : ℕ) → HasRead read old → k < at → channel_arrivals (read ++ take k bytes) ≡ channel_arrivals read
 
 -- what the search for an area says of the bytes from a place on
 pub record Searched (rest : List ℕ) (old : ReaderState) (n : ℕ) (areas : List (List ℕ)) (new : ReaderState) : Type 0 where
-  pub read : (taken : List ℕ) → HasRead taken old → HasRead (taken ++ take n rest) new
-  pub areas_are : (taken : List ℕ) → HasRead taken old → areas_in (taken ++ take n rest) ≡ areas_in taken ++ areas
-  pub before : (taken : List ℕ) (k : ℕ) → HasRead taken old → k < n → areas_in (taken ++ take k rest) ≡ areas_in taken
+  pub has_read : (read : List ℕ) → HasRead read old → HasRead (read ++ take n rest) new
+  pub areas_are : (read : List ℕ) → HasRead read old → areas_in (read ++ take n rest) ≡ areas_in read ++ areas
+  pub before : (read : List ℕ) (k : ℕ) → HasRead read old → k < n → areas_in (read ++ take k rest) ≡ areas_in read
   pub within : n ≤ length rest
 
 abbrev pub rest_from : List ℕ → ℕ → List ℕ
@@ -56,49 +56,49 @@ pub passed_none : (bytes : List ℕ) (old : ReaderState) (at : ℕ) → at ≡ 0
 passed_none bytes old at e =
     let P : ℕ → Type 0 = λ n. Passed bytes old n old in
     let start : Passed bytes old 0 old = record {
-      read = λ taken has. subst (λ y. HasRead y old) (sym (append-nil taken)) has;
-      none = λ taken has. ap channel_arrivals (append-nil taken);
-      before = λ taken k has h. absurd (omega arith);
+      has_read = λ read has. subst (λ y. HasRead y old) (sym (append-nil read)) has;
+      none = λ read has. ap channel_arrivals (append-nil read);
+      before = λ read k has h. absurd (omega arith);
     } in
     subst P (sym e) start
 
-joins : (taken bytes : List ℕ) (at n : ℕ) → (taken ++ take at bytes) ++ take n (rest_from bytes at) ≡ taken ++ take (at + n) bytes
-joins taken bytes at n =
-    append_assoc taken (take at bytes) (take n (rest_from bytes at))
-    ∙ ap (λ y. taken ++ y) (ap (λ y. take at bytes ++ take n y) (take_rest bytes at) ∙ sym (take-add at n bytes))
+joins : (read bytes : List ℕ) (at n : ℕ) → (read ++ take at bytes) ++ take n (rest_from bytes at) ≡ read ++ take (at + n) bytes
+joins read bytes at n =
+    append_assoc read (take at bytes) (take n (rest_from bytes at))
+    ∙ ap (λ y. read ++ y) (ap (λ y. take at bytes ++ take n y) (take_rest bytes at) ∙ sym (take-add at n bytes))
 
 pub arrives_with : (bytes : List ℕ) (old mid new : ReaderState) (at n : ℕ) (areas : List (List ℕ)) → Passed bytes old at mid → Searched (rest_from bytes at) mid n areas new
-    → (taken : List ℕ) → HasRead taken old → channel_arrivals (taken ++ take (at + n) bytes) ≡ channel_arrivals taken ++ arrivals_in areas
-arrives_with bytes old mid new at n areas first second taken has =
-    let early = taken ++ take at bytes in
-    ap channel_arrivals (sym (joins taken bytes at n))
-    ∙ arrived_on early (early ++ take n (rest_from bytes at)) areas (second.areas_are early (first.read taken has))
-    ∙ ap (λ y. y ++ arrivals_in areas) (first.none taken has)
+    → (read : List ℕ) → HasRead read old → channel_arrivals (read ++ take (at + n) bytes) ≡ channel_arrivals read ++ arrivals_in areas
+arrives_with bytes old mid new at n areas first second read has =
+    let early = read ++ take at bytes in
+    ap channel_arrivals (sym (joins read bytes at n))
+    ∙ arrived_on early (early ++ take n (rest_from bytes at)) areas (second.areas_are early (first.read read has))
+    ∙ ap (λ y. y ++ arrivals_in areas) (first.none read has)
 
 pub reads_with : (bytes : List ℕ) (old mid new : ReaderState) (at n : ℕ) (areas : List (List ℕ)) → Passed bytes old at mid → Searched (rest_from bytes at) mid n areas new
-    → (taken : List ℕ) → HasRead taken old → HasRead (taken ++ take (at + n) bytes) new
-reads_with bytes old mid new at n areas first second taken has =
-    subst (λ y. HasRead y new) (joins taken bytes at n) (second.read (taken ++ take at bytes) (first.read taken has))
+    → (read : List ℕ) → HasRead read old → HasRead (read ++ take (at + n) bytes) new
+reads_with bytes old mid new at n areas first second read has =
+    subst (λ y. HasRead y new) (joins read bytes at n) (second.read (read ++ take at bytes) (first.read read has))
 
 pub before_with : (bytes : List ℕ) (old mid new : ReaderState) (at n : ℕ) (areas : List (List ℕ)) → Passed bytes old at mid → Searched (rest_from bytes at) mid n areas new
-    → (taken : List ℕ) (k : ℕ) → HasRead taken old → k < at + n → channel_arrivals (taken ++ take k bytes) ≡ channel_arrivals taken
-before_with bytes old mid new at n areas first second taken k has h = elim (cases_lt k at) [
-  | inl front ↦ first.before taken k has front
+    → (read : List ℕ) (k : ℕ) → HasRead read old → k < at + n → channel_arrivals (read ++ take k bytes) ≡ channel_arrivals read
+before_with bytes old mid new at n areas first second read k has h = elim (cases_lt k at) [
+  | inl front ↦ first.before read k has front
   | inr late ↦
-      let early = taken ++ take at bytes in
+      let early = read ++ take at bytes in
       let j = k - at in
       let sum : k ≡ at + j = omega arith in
-      ap (λ i. channel_arrivals (taken ++ take i bytes)) sum
-      ∙ ap channel_arrivals (sym (joins taken bytes at j))
-      ∙ none_arrived early (early ++ take j (rest_from bytes at)) (second.before early j (first.read taken has) (omega arith))
-      ∙ first.none taken has
+      ap (λ i. channel_arrivals (read ++ take i bytes)) sum
+      ∙ ap channel_arrivals (sym (joins read bytes at j))
+      ∙ none_arrived early (early ++ take j (rest_from bytes at)) (second.before early j (first.read read has) (omega arith))
+      ∙ first.none read has
 ]
 
 pub passed_more : (bytes : List ℕ) (old mid new : ReaderState) (at n : ℕ) (areas : List (List ℕ)) → Passed bytes old at mid → Searched (rest_from bytes at) mid n areas new → arrivals_in areas ≡ []
     → Passed bytes old (at + n) new
 passed_more bytes old mid new at n areas first second none = record {
-  read = reads_with bytes old mid new at n areas first second;
-  none = λ taken has. arrives_with bytes old mid new at n areas first second taken has ∙ ap (λ y. channel_arrivals taken ++ y) none ∙ append-nil (channel_arrivals taken);
+  has_read = reads_with bytes old mid new at n areas first second;
+  none = λ read has. arrives_with bytes old mid new at n areas first second read has ∙ ap (λ y. channel_arrivals read ++ y) none ∙ append-nil (channel_arrivals read);
   before = before_with bytes old mid new at n areas first second;
 }
 
@@ -110,20 +110,20 @@ part_within bytes at n within few = let e = take_rest bytes at in let l = length
 pub searched_one : (byte n : ℕ) (inner new : ReaderState) (areas : List (List ℕ)) → Searched (byte ∷ []) inner n areas new → 1 ≤ n → n ≡ 1
 searched_one byte n inner new areas h some = let few = h.within in omega arith
 
-pub reads_one : (byte n : ℕ) (old inner new : ReaderState) (areas : List (List ℕ)) → inner ≡ old → Searched (byte ∷ []) inner n areas new → 1 ≤ n → (taken : List ℕ) → HasRead taken old → HasRead (taken ++ byte ∷ []) new
-reads_one byte n old inner new areas same h some taken has =
+pub reads_one : (byte n : ℕ) (old inner new : ReaderState) (areas : List (List ℕ)) → inner ≡ old → Searched (byte ∷ []) inner n areas new → 1 ≤ n → (read : List ℕ) → HasRead read old → HasRead (read ++ byte ∷ []) new
+reads_one byte n old inner new areas same h some read has =
     let one = searched_one byte n inner new areas h some in
-    let P : ℕ → Type 0 = λ i. HasRead (taken ++ take i (byte ∷ [])) new in
-    let Q : ReaderState → Type 0 = λ s. HasRead taken s in
-    subst P one (h.read taken (subst Q (sym same) has))
+    let P : ℕ → Type 0 = λ i. HasRead (read ++ take i (byte ∷ [])) new in
+    let Q : ReaderState → Type 0 = λ s. HasRead read s in
+    subst P one (h.read read (subst Q (sym same) has))
 
-pub arrives_one : (byte n : ℕ) (old inner new : ReaderState) (areas : List (List ℕ)) → inner ≡ old → Searched (byte ∷ []) inner n areas new → 1 ≤ n → (taken : List ℕ) → HasRead taken old
-    → channel_arrivals (taken ++ byte ∷ []) ≡ channel_arrivals taken ++ arrivals_in areas
-arrives_one byte n old inner new areas same h some taken has =
+pub arrives_one : (byte n : ℕ) (old inner new : ReaderState) (areas : List (List ℕ)) → inner ≡ old → Searched (byte ∷ []) inner n areas new → 1 ≤ n → (read : List ℕ) → HasRead read old
+    → channel_arrivals (read ++ byte ∷ []) ≡ channel_arrivals read ++ arrivals_in areas
+arrives_one byte n old inner new areas same h some read has =
     let one = searched_one byte n inner new areas h some in
-    let P : ℕ → Type 0 = λ i. areas_in (taken ++ take i (byte ∷ [])) ≡ areas_in taken ++ areas in
-    let Q : ReaderState → Type 0 = λ s. HasRead taken s in
-    arrived_on taken (taken ++ byte ∷ []) areas (subst P one (h.areas_are taken (subst Q (sym same) has)))
+    let P : ℕ → Type 0 = λ i. areas_in (read ++ take i (byte ∷ [])) ≡ areas_in read ++ areas in
+    let Q : ReaderState → Type 0 = λ s. HasRead read s in
+    arrived_on read (read ++ byte ∷ []) areas (subst P one (h.areas_are read (subst Q (sym same) has)))
 
 -- the arrival in an area that was found, as it is lent
 pub lent_one : (found : Bool) (new : ReaderState) (area : List ℕ) (arrival : Option ChannelArrival) → found ≡ true → area ≡ new.area → arrival ≡ arrival_in area → arrivals_in (news found new) ≡ option_to_list arrival

@@ -105,10 +105,10 @@ text_same cids texts count n m hn hm = elim (cases_lt n m) [
 
 pub made_is : MadeIsTheWeave
 unfolding text_after
-made_is cids texts at given maker woven is =
+made_is cids texts at emitted maker woven is =
     let n = is.begun in
-    let text : given ++ maker.maker.hand ≡ text_after cids texts n = woven.made.text ∙ ap (λ fs. text_of (map (made_of cids) fs)) is.begins in
+    let text : emitted ++ maker.maker.hand ≡ text_after cids texts n = woven.made.text ∙ ap (λ fs. text_of (map (made_of cids) fs)) is.begins in
     let l = ap length text ∙ refl in
-    let s = length-append given maker.maker.hand in
-    sym (take-append_seam given maker.maker.hand) ∙ ap (take (length given)) text
-    ∙ text_same cids texts (length given) n (length given) (omega arith) (text-length cids texts (length given))
+    let s = length-append emitted maker.maker.hand in
+    sym (take-append_seam emitted maker.maker.hand) ∙ ap (take (length emitted)) text
+    ∙ text_same cids texts (length emitted) n (length emitted) (omega arith) (text-length cids texts (length emitted))

@@ -146,24 +146,24 @@ if_some_map P Q (Some x) f h = f x h
 if_some_map P Q None f h = tt
 
 -- what follows a front is the next of the list
-next_behind : (given rest : List (List ℕ)) → IfSome (slice_get (given ++ rest) (length given)) (λ p. IsFront (given ++ p ∷ []) (given ++ rest))
+next_behind : (offered rest : List (List ℕ)) → IfSome (slice_get (offered ++ rest) (length offered)) (λ p. IsFront (offered ++ p ∷ []) (offered ++ rest))
 next_behind [] [] = tt
 next_behind [] (x ∷ rest) = (rest, refl)
-next_behind (g ∷ given) rest =
-    if_some_map (λ p. IsFront (given ++ p ∷ []) (given ++ rest)) (λ p. IsFront (g ∷ given ++ p ∷ []) (g ∷ given ++ rest)) (slice_get (given ++ rest) (length given))
-    (λ p front. (front.0, ap (λ l. g ∷ l) front.1)) (next_behind given rest)
+next_behind (g ∷ offered) rest =
+    if_some_map (λ p. IsFront (offered ++ p ∷ []) (offered ++ rest)) (λ p. IsFront (g ∷ offered ++ p ∷ []) (g ∷ offered ++ rest)) (slice_get (offered ++ rest) (length offered))
+    (λ p front. (front.0, ap (λ l. g ∷ l) front.1)) (next_behind offered rest)
 
-offered_front : (packets given : List (List ℕ)) → IsFront given packets → IfSome (slice_get packets (length given)) (λ p. IsFront (given ++ p ∷ []) packets)
-offered_front packets given front =
-    let P : List (List ℕ) → Type 0 = λ whole. IfSome (slice_get whole (length given)) (λ p. IsFront (given ++ p ∷ []) whole) in
-    subst P (sym front.1) (next_behind given front.0)
+offered_front : (packets offered : List (List ℕ)) → IsFront offered packets → IfSome (slice_get packets (length offered)) (λ p. IsFront (offered ++ p ∷ []) packets)
+offered_front packets offered front =
+    let P : List (List ℕ) → Type 0 = λ whole. IfSome (slice_get whole (length offered)) (λ p. IsFront (offered ++ p ∷ []) whole) in
+    subst P (sym front.1) (next_behind offered front.0)
 
 next_front : (texts : List ChannelText) (frames : List WovenFrame) (c : ℕ) → IsFront (packets_given c frames) (get_or texts c no_text).packets
     → IsFront (packets_given c frames ++ packet_of c (next_frame texts frames)) (get_or texts c no_text).packets
 next_front texts frames c front = next_holds Fits (length texts) texts frames 0 still (λ k. one (asked_after (length texts) (last_giver frames) k))
   where
-    given : List (List ℕ)
-    given = packets_given c frames
+    offered : List (List ℕ)
+    offered = packets_given c frames
 
     whole : List (List ℕ)
     whole = (get_or texts c no_text).packets
@@ -171,8 +171,8 @@ next_front texts frames c front = next_holds Fits (length texts) texts frames 0 
     Fits : WovenFrame → Type 0
     Fits = λ frame. IsFront (packets_given c frames ++ packet_of c frame) (get_or texts c no_text).packets
 
-    still : IsFront (given ++ []) whole
-    still = subst (λ y. IsFront y whole) (sym (append-nil given)) front
+    still : IsFront (offered ++ []) whole
+    still = subst (λ y. IsFront y whole) (sym (append-nil offered)) front
 
     by_test : (b : Bool) (d : ℕ) → (d == c) ≡ b → IfSome (slice_get (get_or texts d no_text).packets (length (packets_given d frames))) (λ packet. IsFront (packets_given c frames ++ cond b (packet ∷ []) []) (get_or texts c no_text).packets)
     by_test true d e =

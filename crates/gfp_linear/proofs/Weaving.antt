@@ -67,8 +67,8 @@ not_due c frames h = ap (λ b. cond b None (Some (LossFrame c))) (late_is c fram
 
 -- ---- which channel is asked
 
-pub asked_is : (cids : List ℕ) (at : Woven) (given : List ℕ) (m : WeaverState) (c : ℕ) → HasWoven cids at given m → c ≡ (m.first + m.asked) % length m.cids → c ≡ channel_at (length cids) at
-asked_is cids at given m c woven is =
+pub asked_is : (cids : List ℕ) (at : Woven) (emitted : List ℕ) (m : WeaverState) (c : ℕ) → HasWoven cids at emitted m → c ≡ (m.first + m.asked) % length m.cids → c ≡ channel_at (length cids) at
+asked_is cids at emitted m c woven is =
     is ∙ ap (λ xs. (m.first + m.asked) % length xs) woven.same ∙ ap (λ n. (n + m.asked) % length cids) woven.first ∙ ap (λ n. (asked_first (length cids) (last_giver at.frames) + n) % length cids) woven.others
 
 -- ---- the waits, one frame later
@@ -84,18 +84,18 @@ quiet_waits cids frames frame waits none size was c h =
 
 -- ---- steps
 
-pub packet_woven : (cids : List ℕ) (at : Woven) (given : List ℕ) (old new : WeaverState) (c : ℕ) (packet : List ℕ) → HasWoven cids at given old → old.maker.hand ≡ [] → c ≡ (old.first + old.asked) % length old.cids
-    → new ≡ packet_put old c packet → HasWoven cids (woven_on (length cids) at (Some (PacketFrame (channel_at (length cids) at) packet))) given new
-packet_woven cids at given old new c packet woven none asked is =
-    let P : ℕ → Type 0 = λ d. HasWoven cids (woven_on (length cids) at (Some (PacketFrame d packet))) given new in
-    let Q : WeaverState → Type 0 = λ s. HasWoven cids (woven_on (length cids) at (Some (PacketFrame c packet))) given s in
+pub packet_woven : (cids : List ℕ) (at : Woven) (emitted : List ℕ) (old new : WeaverState) (c : ℕ) (packet : List ℕ) → HasWoven cids at emitted old → old.maker.hand ≡ [] → c ≡ (old.first + old.asked) % length old.cids
+    → new ≡ packet_put old c packet → HasWoven cids (woven_on (length cids) at (Some (PacketFrame (channel_at (length cids) at) packet))) emitted new
+packet_woven cids at emitted old new c packet woven none asked is =
+    let P : ℕ → Type 0 = λ d. HasWoven cids (woven_on (length cids) at (Some (PacketFrame d packet))) emitted new in
+    let Q : WeaverState → Type 0 = λ s. HasWoven cids (woven_on (length cids) at (Some (PacketFrame c packet))) emitted s in
     let frame = PacketFrame c packet in
     let next = packet_put old c packet in
     let area : packet_area (get_or old.cids c 0) packet ≡ packet_area (get_or cids c 0) packet = ap (λ xs. packet_area (get_or xs c 0) packet) woven.same in
-    let made : HasMade (map (made_of cids) at.frames ++ made_of cids frame ∷ []) given next.maker =
-    frame_made (map (made_of cids) at.frames) (made_of cids frame) given old.maker next.maker woven.made none (ap (λ a. made_frame a old.maker.register) area) in
-    let R : List Frame → Type 0 = λ fs. HasMade fs given next.maker in
-    subst P (asked_is cids at given old c woven asked) (subst Q (sym is) (record {
+    let made : HasMade (map (made_of cids) at.frames ++ made_of cids frame ∷ []) emitted next.maker =
+    frame_made (map (made_of cids) at.frames) (made_of cids frame) emitted old.maker next.maker woven.made none (ap (λ a. made_frame a old.maker.register) area) in
+    let R : List Frame → Type 0 = λ fs. HasMade fs emitted next.maker in
+    subst P (asked_is cids at emitted old c woven asked) (subst Q (sym is) (record {
       made = subst R (sym (made-push cids at.frames frame)) made;
       same = woven.same;
       first = ap (λ xs. (c + 1) % length xs) woven.same ∙ ap (asked_first (length cids)) (sym (giver-push at.frames frame));
@@ -122,16 +122,16 @@ loss_waits cids frames waits c size was d h = by_test (c == d) refl
         get_or-set_other later c d 1000 0 other ∙ passed waits d (omega arith) ∙ ap (λ n. n - 1) (was d h)
         ∙ sym (wait-push d frames (LossFrame c) ∙ ap (λ b. cond b 1000 (wait_of d frames - 1)) e)
 
-pub loss_woven : (cids : List ℕ) (at : Woven) (given : List ℕ) (old new : WeaverState) (c : ℕ) → HasWoven cids at given old → old.maker.hand ≡ [] → c ≡ (old.first + old.asked) % length old.cids
-    → new ≡ loss_put old c → HasWoven cids (woven_on (length cids) at (Some (LossFrame c))) given new
-loss_woven cids at given old new c woven none asked is =
-    let Q : WeaverState → Type 0 = λ s. HasWoven cids (woven_on (length cids) at (Some (LossFrame c))) given s in
+pub loss_woven : (cids : List ℕ) (at : Woven) (emitted : List ℕ) (old new : WeaverState) (c : ℕ) → HasWoven cids at emitted old → old.maker.hand ≡ [] → c ≡ (old.first + old.asked) % length old.cids
+    → new ≡ loss_put old c → HasWoven cids (woven_on (length cids) at (Some (LossFrame c))) emitted new
+loss_woven cids at emitted old new c woven none asked is =
+    let Q : WeaverState → Type 0 = λ s. HasWoven cids (woven_on (length cids) at (Some (LossFrame c))) emitted s in
     let frame = LossFrame c in
     let next = loss_put old c in
     let area : loss_area (get_or old.cids c 0) ≡ loss_area (get_or cids c 0) = ap (λ xs. loss_area (get_or xs c 0)) woven.same in
-    let made : HasMade (map (made_of cids) at.frames ++ made_of cids frame ∷ []) given next.maker =
-    frame_made (map (made_of cids) at.frames) (made_of cids frame) given old.maker next.maker woven.made none (ap (λ a. made_frame a old.maker.register) area) in
-    let R : List Frame → Type 0 = λ fs. HasMade fs given next.maker in
+    let made : HasMade (map (made_of cids) at.frames ++ made_of cids frame ∷ []) emitted next.maker =
+    frame_made (map (made_of cids) at.frames) (made_of cids frame) emitted old.maker next.maker woven.made none (ap (λ a. made_frame a old.maker.register) area) in
+    let R : List Frame → Type 0 = λ fs. HasMade fs emitted next.maker in
     subst Q (sym is) (record {
       made = subst R (sym (made-push cids at.frames frame)) made;
       same = woven.same;
@@ -142,11 +142,11 @@ loss_woven cids at given old new c woven none asked is =
     })
 
 -- a channel that gives nothing, where others are left
-pub next_woven : (cids : List ℕ) (at : Woven) (given : List ℕ) (old new : WeaverState) → HasWoven cids at given old → old.asked + 1 < length old.cids → new ≡ record old { asked = old.asked + 1 }
-    → HasWoven cids (woven_on (length cids) at None) given new
-next_woven cids at given old new woven left is =
-    let P : Woven → Type 0 = λ w. HasWoven cids w given new in
-    let Q : WeaverState → Type 0 = λ s. HasWoven cids (record { frames = at.frames; others = at.others + 1 }) given s in
+pub next_woven : (cids : List ℕ) (at : Woven) (emitted : List ℕ) (old new : WeaverState) → HasWoven cids at emitted old → old.asked + 1 < length old.cids → new ≡ record old { asked = old.asked + 1 }
+    → HasWoven cids (woven_on (length cids) at None) emitted new
+next_woven cids at emitted old new woven left is =
+    let P : Woven → Type 0 = λ w. HasWoven cids w emitted new in
+    let Q : WeaverState → Type 0 = λ s. HasWoven cids (record { frames = at.frames; others = at.others + 1 }) emitted s in
     let idle : Woven = record { frames = at.frames ++ IdleFrame ∷ []; others = 0 } in
     let count : length old.cids ≡ length cids = ap length woven.same in
     let test : nat_lt (at.others + 1) (length cids) ≡ true = lt-ltb (at.others + 1) (length cids) (let e = woven.others in omega arith) in
@@ -154,18 +154,18 @@ next_woven cids at given old new woven left is =
     (subst Q (sym is) (record { made = woven.made; same = woven.same; first = woven.first; others = ap (λ n. n + 1) woven.others; sizes = woven.sizes; waits = woven.waits }))
 
 -- a channel that gives nothing, the last one: an idle frame begins
-pub idle_woven : (cids : List ℕ) (at : Woven) (given : List ℕ) (old new : WeaverState) → HasWoven cids at given old → old.maker.hand ≡ [] → length old.cids ≤ old.asked + 1
+pub idle_woven : (cids : List ℕ) (at : Woven) (emitted : List ℕ) (old new : WeaverState) → HasWoven cids at emitted old → old.maker.hand ≡ [] → length old.cids ≤ old.asked + 1
     → new ≡ record old { waits = map (λ wait. wait - 1) old.waits; maker = record old.maker { hand = core_header 0 }; asked = 0 }
-    → HasWoven cids (woven_on (length cids) at None) given new
-idle_woven cids at given old new woven none last is =
+    → HasWoven cids (woven_on (length cids) at None) emitted new
+idle_woven cids at emitted old new woven none last is =
     let next : WeaverState = record old { waits = map (λ wait. wait - 1) old.waits; maker = record old.maker { hand = core_header 0 }; asked = 0 } in
     let idle : Woven = record { frames = at.frames ++ IdleFrame ∷ []; others = 0 } in
-    let P : Woven → Type 0 = λ w. HasWoven cids w given new in
-    let Q : WeaverState → Type 0 = λ s. HasWoven cids idle given s in
+    let P : Woven → Type 0 = λ w. HasWoven cids w emitted new in
+    let Q : WeaverState → Type 0 = λ s. HasWoven cids idle emitted s in
     let count : length old.cids ≡ length cids = ap length woven.same in
     let test : nat_lt (at.others + 1) (length cids) ≡ false = le-ltb (at.others + 1) (length cids) (let e = woven.others in omega arith) in
-    let made : HasMade (map (made_of cids) at.frames ++ Idle ∷ []) given next.maker = idle_made (map (made_of cids) at.frames) given old.maker next.maker woven.made none refl in
-    let R : List Frame → Type 0 = λ fs. HasMade fs given next.maker in
+    let made : HasMade (map (made_of cids) at.frames ++ Idle ∷ []) emitted next.maker = idle_made (map (made_of cids) at.frames) emitted old.maker next.maker woven.made none refl in
+    let R : List Frame → Type 0 = λ fs. HasMade fs emitted next.maker in
     subst P (sym (ap (λ b. cond b (record { frames = at.frames; others = at.others + 1 }) idle) test))
     (subst Q (sym is) (record {
       made = subst R (sym (made-push cids at.frames IdleFrame)) made;
@@ -197,12 +197,12 @@ wait-idles c frames (suc k) =
     let one = wait-push c frames IdleFrame in
     ap (wait_of c) (more_idles frames k) ∙ wait-idles c (frames ++ IdleFrame ∷ []) k ∙ (let e : wait_of c (frames ++ IdleFrame ∷ []) - k ≡ wait_of c frames - suc k = omega (arith, one) in e)
 
-pub idles_woven : (cids : List ℕ) (at : Woven) (given bytes : List ℕ) (k : ℕ) (old new : WeaverState) (maker : MakerState) → HasWoven cids at given old
-    → HasMade (map (made_of cids) at.frames ++ replicate k Idle) (given ++ bytes) maker → new ≡ record old { waits = map (λ wait. wait - k) old.waits; maker = maker; asked = 0 }
-    → HasWoven cids (idles_on k at) (given ++ bytes) new
-idles_woven cids at given bytes k old new maker woven made is =
-    let Q : WeaverState → Type 0 = λ s. HasWoven cids (idles_on k at) (given ++ bytes) s in
-    let R : List Frame → Type 0 = λ fs. HasMade fs (given ++ bytes) maker in
+pub idles_woven : (cids : List ℕ) (at : Woven) (emitted bytes : List ℕ) (k : ℕ) (old new : WeaverState) (maker : MakerState) → HasWoven cids at emitted old
+    → HasMade (map (made_of cids) at.frames ++ replicate k Idle) (emitted ++ bytes) maker → new ≡ record old { waits = map (λ wait. wait - k) old.waits; maker = maker; asked = 0 }
+    → HasWoven cids (idles_on k at) (emitted ++ bytes) new
+idles_woven cids at emitted bytes k old new maker woven made is =
+    let Q : WeaverState → Type 0 = λ s. HasWoven cids (idles_on k at) (emitted ++ bytes) s in
+    let R : List Frame → Type 0 = λ fs. HasMade fs (emitted ++ bytes) maker in
     subst Q (sym is) (record {
       made = subst R (sym (made-idles cids at.frames k)) made;
       same = woven.same;
@@ -215,26 +215,26 @@ idles_woven cids at given bytes k old new maker woven made is =
     })
 
 -- the same, of a state that is seen in two ways
-pub idles_given : (cids : List ℕ) (at : Woven) (given bytes waits : List ℕ) (n k : ℕ) (old mid : WeaverState) (maker : MakerState) → HasWoven cids at given old → old.maker.hand ≡ [] → old ≡ mid
-    → ((frames : List Frame) (given : List ℕ) → HasMade frames given mid.maker → HasMade (frames ++ replicate (idles_begun mid.maker.hand n) Idle) (given ++ bytes) maker)
+pub idles_given : (cids : List ℕ) (at : Woven) (emitted bytes waits : List ℕ) (n k : ℕ) (old mid : WeaverState) (maker : MakerState) → HasWoven cids at emitted old → old.maker.hand ≡ [] → old ≡ mid
+    → ((frames : List Frame) (emitted : List ℕ) → HasMade frames emitted mid.maker → HasMade (frames ++ replicate (idles_begun mid.maker.hand n) Idle) (emitted ++ bytes) maker)
     → waits ≡ map (λ wait. wait - k) mid.waits → k ≡ (n + 3) / 4
-    → HasWoven cids (idles_on ((n + 3) / 4) at) (given ++ bytes) (record { cids = mid.cids; waits = waits; maker = maker; first = mid.first; asked = 0 })
-idles_given cids at given bytes waits n k old mid maker woven none seen makes passed count =
-    let here = subst (HasWoven cids at given) seen woven in
+    → HasWoven cids (idles_on ((n + 3) / 4) at) (emitted ++ bytes) (record { cids = mid.cids; waits = waits; maker = maker; first = mid.first; asked = 0 })
+idles_given cids at emitted bytes waits n k old mid maker woven none seen makes passed count =
+    let here = subst (HasWoven cids at emitted) seen woven in
     let empty : mid.maker.hand ≡ [] = ap (λ (s : WeaverState). s.maker.hand) (sym seen) ∙ none in
     let many : idles_begun mid.maker.hand n ≡ (n + 3) / 4 = ap (λ h. idles_begun h n) empty ∙ (let e : (n - 0 + 3) / 4 ≡ (n + 3) / 4 = omega arith in e) in
-    let made = subst (λ k. HasMade (map (made_of cids) at.frames ++ replicate k Idle) (given ++ bytes) maker) many (makes (map (made_of cids) at.frames) given here.made) in
-    idles_woven cids at given bytes ((n + 3) / 4) mid (record { cids = mid.cids; waits = waits; maker = maker; first = mid.first; asked = 0 }) maker here made
+    let made = subst (λ k. HasMade (map (made_of cids) at.frames ++ replicate k Idle) (emitted ++ bytes) maker) many (makes (map (made_of cids) at.frames) emitted here.made) in
+    idles_woven cids at emitted bytes ((n + 3) / 4) mid (record { cids = mid.cids; waits = waits; maker = maker; first = mid.first; asked = 0 }) maker here made
     (with_waits (passed ∙ ap (λ k. map (λ wait. wait - k) mid.waits) count))
   where
     with_waits : {ws : List ℕ} → waits ≡ ws → ◌≡◌ {A = WeaverState} (record { cids = mid.cids; waits = waits; maker = maker; first = mid.first; asked = 0 }) (record { cids = mid.cids; waits = ws; maker = maker; first = mid.first; asked = 0 })
     with_waits e = rw e refl
 
 -- bytes of the frame in hand
-pub gives_woven : (cids : List ℕ) (at : Woven) (given bytes : List ℕ) (old new : WeaverState) (maker : MakerState) → HasWoven cids at given old → HasMade (map (made_of cids) at.frames) (given ++ bytes) maker → new ≡ record old { maker = maker }
-    → HasWoven cids at (given ++ bytes) new
-gives_woven cids at given bytes old new maker woven made is =
-    let Q : WeaverState → Type 0 = λ s. HasWoven cids at (given ++ bytes) s in
+pub gives_woven : (cids : List ℕ) (at : Woven) (emitted bytes : List ℕ) (old new : WeaverState) (maker : MakerState) → HasWoven cids at emitted old → HasMade (map (made_of cids) at.frames) (emitted ++ bytes) maker → new ≡ record old { maker = maker }
+    → HasWoven cids at (emitted ++ bytes) new
+gives_woven cids at emitted bytes old new maker woven made is =
+    let Q : WeaverState → Type 0 = λ s. HasWoven cids at (emitted ++ bytes) s in
     subst Q (sym is) (record { made = made; same = woven.same; first = woven.first; others = woven.others; sizes = woven.sizes; waits = woven.waits })
 
 -- ---- answers

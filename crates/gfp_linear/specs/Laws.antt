@@ -94,6 +94,6 @@ WeaveGoesOn = (texts : List ChannelText) (at : Woven) (c : ℕ) → IsWeave text
 
 -- And the bytes that were given are its first bytes.
 abbrev pub MadeIsTheWeave : Type 0
-MadeIsTheWeave = (cids : List ℕ) (texts : List ChannelText) (at : Woven) (given : List ℕ) (maker : WeaverState)
-    → HasWoven cids at given maker → IsWeave texts at
-    → given ≡ weave_text cids texts (length given)
+MadeIsTheWeave = (cids : List ℕ) (texts : List ChannelText) (at : Woven) (emitted : List ℕ) (maker : WeaverState)
+    → HasWoven cids at emitted maker → IsWeave texts at
+    → emitted ≡ weave_text cids texts (length emitted)

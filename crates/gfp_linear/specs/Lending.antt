@@ -8,11 +8,11 @@ use Rattle.gfp_linear.specs.contracts.reader.ChannelReader.{the_row}
 -- it has read one byte more
 abbrev pub EndsHavingRead : MutBor ReaderState → ℕ → Fml
 EndsHavingRead reader byte =
-    follows_so the_row the_row reader.ghost_name none (λ _ _. ⊤) (λ last. (taken : List ℕ) → HasRead taken reader.now
-    → HasRead (taken ++ byte ∷ []) last)
+    follows_so the_row the_row reader.ghost_name none (λ _ _. ⊤) (λ last. (read : List ℕ) → HasRead read reader.now
+    → HasRead (read ++ byte ∷ []) last)
 
 -- it has read these bytes more
 abbrev pub EndsHavingReadAll : MutBor ReaderState → List ℕ → Fml
 EndsHavingReadAll reader bytes =
-    follows_so the_row the_row reader.ghost_name none (λ _ _. ⊤) (λ last. (taken : List ℕ) → HasRead taken reader.now
-    → HasRead (taken ++ bytes) last)
+    follows_so the_row the_row reader.ghost_name none (λ _ _. ⊤) (λ last. (read : List ℕ) → HasRead read reader.now
+    → HasRead (read ++ bytes) last)

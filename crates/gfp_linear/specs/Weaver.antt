@@ -48,8 +48,8 @@ wait_of c frames = wait_behind c (reverse frames)
 
 -- Since its start the maker was told for each frame what the channels of these CIDs gave, and is so far; and it gave
 -- these bytes.
-pub record HasWoven (cids : List ℕ) (at : Woven) (given : List ℕ) (maker : WeaverState) : Type 0 where
-  pub made : HasMade (map (made_of cids) at.frames) given maker.maker
+pub record HasWoven (cids : List ℕ) (at : Woven) (emitted : List ℕ) (maker : WeaverState) : Type 0 where
+  pub made : HasMade (map (made_of cids) at.frames) emitted maker.maker
   pub same : maker.cids ≡ cids
   pub first : maker.first ≡ asked_first (length cids) (last_giver at.frames)
   pub others : maker.asked ≡ at.others

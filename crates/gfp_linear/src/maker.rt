@@ -76,7 +76,7 @@ impl ChannelMaker {
     pub fn next_asked(&self) -> Option<u32>
         ensures none { IsNone result → self.now.maker.hand ≢ [] }
         ensures some { IfSome result (λ channel. (self.now.maker.hand ≡ []) × (channel < length self.now.cids)) }
-        ensures asked { (cids : List ℕ) (at : Woven) (given : List ℕ) → HasWoven cids at given self.now →
+        ensures asked { (cids : List ℕ) (at : Woven) (emitted : List ℕ) → HasWoven cids at emitted self.now →
             IfSome result (λ channel. channel ≡ channel_at (length cids) at) }
     {
         if self.maker.idle() {
@@ -90,8 +90,8 @@ impl ChannelMaker {
     pub fn give(&mut self, packet: &[u8])
         requires asked { self.old.maker.hand ≡ [] }
         requires packet { (1 ≤ length packet.now) × (length packet.now ≤ 65523) }
-        ensures woven { (cids : List ℕ) (at : Woven) (given : List ℕ) → HasWoven cids at given self.old →
-            HasWoven cids (woven_on (length cids) at (Some (PacketFrame (channel_at (length cids) at) packet.now))) given self.new }
+        ensures woven { (cids : List ℕ) (at : Woven) (emitted : List ℕ) → HasWoven cids at emitted self.old →
+            HasWoven cids (woven_on (length cids) at (Some (PacketFrame (channel_at (length cids) at) packet.now))) emitted self.new }
         ensures hand { self.new.maker.hand ≢ [] }
     {
         let channel = self.channel();
@@ -101,8 +101,8 @@ impl ChannelMaker {
     /// The channel that is asked gives nothing: the next one is asked, and behind the last an idle frame is in hand.
     pub fn nothing(&mut self)
         requires { self.old.maker.hand ≡ [] }
-        ensures woven { (cids : List ℕ) (at : Woven) (given : List ℕ) → HasWoven cids at given self.old →
-            HasWoven cids (woven_on (length cids) at None) given self.new }
+        ensures woven { (cids : List ℕ) (at : Woven) (emitted : List ℕ) → HasWoven cids at emitted self.old →
+            HasWoven cids (woven_on (length cids) at None) emitted self.new }
         // The channels are asked once round: while none gives a frame, one more was asked each time.
         ensures round { self.new.maker.hand ≡ []
             → (self.new.asked ≡ self.old.asked + 1) × (self.new.asked < length self.new.cids)
@@ -119,8 +119,8 @@ impl ChannelMaker {
     /// is one; else it gives nothing.
     pub fn lost(&mut self)
         requires { self.old.maker.hand ≡ [] }
-        ensures woven { (cids : List ℕ) (at : Woven) (given : List ℕ) → HasWoven cids at given self.old →
-            HasWoven cids (woven_on (length cids) at (loss_due (channel_at (length cids) at) at.frames)) given self.new }
+        ensures woven { (cids : List ℕ) (at : Woven) (emitted : List ℕ) → HasWoven cids at emitted self.old →
+            HasWoven cids (woven_on (length cids) at (loss_due (channel_at (length cids) at) at.frames)) emitted self.new }
         ensures round { self.new.maker.hand ≡ []
             → (self.new.asked ≡ self.old.asked + 1) × (self.new.asked < length self.new.cids)
             × (self.new.cids ≡ self.old.cids) }
@@ -136,8 +136,8 @@ impl ChannelMaker {
     /// The next byte of the frame in hand.
     pub fn next_byte(&mut self) -> u8
         requires { self.old.maker.hand ≢ [] }
-        ensures woven { (cids : List ℕ) (at : Woven) (given : List ℕ) → HasWoven cids at given self.old →
-            HasWoven cids at (given ++ result ∷ []) self.new }
+        ensures woven { (cids : List ℕ) (at : Woven) (emitted : List ℕ) → HasWoven cids at emitted self.old →
+            HasWoven cids at (emitted ++ result ∷ []) self.new }
         ensures byte { self.old.maker.hand ≡ result ∷ self.new.maker.hand }
     {
         self.maker.next_byte()
@@ -146,8 +146,8 @@ impl ChannelMaker {
     /// The next bytes of the frame in hand, as many as there is room for: how many. Where no frame is in hand it gives
     /// none, and a channel is to be asked.
     pub fn give_bytes(&mut self, into: &mut [u8]) -> usize
-        ensures woven { (cids : List ℕ) (at : Woven) (given : List ℕ) → HasWoven cids at given self.old →
-            HasWoven cids at (given ++ take result into.new) self.new }
+        ensures woven { (cids : List ℕ) (at : Woven) (emitted : List ℕ) → HasWoven cids at emitted self.old →
+            HasWoven cids at (emitted ++ take result into.new) self.new }
         ensures count { result ≡ min (length self.old.maker.hand) (length into.old) }
         ensures bytes { take result into.new ++ self.new.maker.hand ≡ self.old.maker.hand }
         ensures others { drop result into.new ≡ drop result into.old }
@@ -159,8 +159,8 @@ impl ChannelMaker {
     /// is asked for them.
     pub fn give_idle(&mut self, into: &mut [u8])
         requires { self.old.maker.hand ≡ [] }
-        ensures woven { (cids : List ℕ) (at : Woven) (given : List ℕ) → HasWoven cids at given self.old →
-            HasWoven cids (idles_on ((length into.old + 3) / 4) at) (given ++ into.new) self.new }
+        ensures woven { (cids : List ℕ) (at : Woven) (emitted : List ℕ) → HasWoven cids at emitted self.old →
+            HasWoven cids (idles_on ((length into.old + 3) / 4) at) (emitted ++ into.new) self.new }
         ensures size { length into.new ≡ length into.old }
     {
         let idles = idles_for(into.len());

@@ -51,8 +51,8 @@ impl ChannelReader {
     pub fn take(&mut self, byte: u8) -> Option<Arrival<'_>>
         // Of every list of bytes since the start what arrives is what arrives in the list.
         ensures* read { sem 𝓛 (EndsHavingRead self.entry byte) }
-        ensures arrivals { (taken : List ℕ) → HasRead taken self.old →
-            channel_arrivals (taken ++ byte ∷ []) ≡ channel_arrivals taken ++ option_to_list (option_map seen result) }
+        ensures arrivals { (read : List ℕ) → HasRead read self.old →
+            channel_arrivals (read ++ byte ∷ []) ≡ channel_arrivals read ++ option_to_list (option_map seen result) }
         ensures size { IfSome result (λ arrival. IsSized (seen arrival)) }
     {
         if self.reader.find_area(&[byte]).1 {
@@ -67,10 +67,10 @@ impl ChannelReader {
     pub fn take_some(&mut self, bytes: &[u8]) -> (usize, Option<Arrival<'_>>)
         // Of every list of bytes since the start what arrives is what arrives in the list, each with its last byte.
         ensures* read { sem 𝓛 (EndsHavingReadAll self.entry (take result.0 bytes.now)) }
-        ensures arrivals { (taken : List ℕ) → HasRead taken self.old →
-            channel_arrivals (taken ++ take result.0 bytes.now) ≡ channel_arrivals taken ++ option_to_list (option_map seen result.1) }
-        ensures none_before { (taken : List ℕ) (k : ℕ) → HasRead taken self.old → k < result.0 →
-            channel_arrivals (taken ++ take k bytes.now) ≡ channel_arrivals taken }
+        ensures arrivals { (read : List ℕ) → HasRead read self.old →
+            channel_arrivals (read ++ take result.0 bytes.now) ≡ channel_arrivals read ++ option_to_list (option_map seen result.1) }
+        ensures none_before { (read : List ℕ) (k : ℕ) → HasRead read self.old → k < result.0 →
+            channel_arrivals (read ++ take k bytes.now) ≡ channel_arrivals read }
         ensures within { result.0 ≤ length bytes.now }
         ensures all { IsNone result.1 → result.0 ≡ length bytes.now }
         ensures some { 1 ≤ length bytes.now → 1 ≤ result.0 }
@@ -87,13 +87,13 @@ impl ChannelReader {
     // Goes on over bytes up to and with the one with which something arrives, or over all: how many, and whether
     // something does.
     fn find_arrival(&mut self, bytes: &[u8]) -> (usize, bool)
-        ensures read { (taken : List ℕ) → HasRead taken self.old → HasRead (taken ++ take result.0 bytes.now) self.new }
-        ensures arrivals { (taken : List ℕ) → HasRead taken self.old →
-            channel_arrivals (taken ++ take result.0 bytes.now) ≡ channel_arrivals taken ++ found_in result.1 self.new.area }
+        ensures read { (read : List ℕ) → HasRead read self.old → HasRead (read ++ take result.0 bytes.now) self.new }
+        ensures arrivals { (read : List ℕ) → HasRead read self.old →
+            channel_arrivals (read ++ take result.0 bytes.now) ≡ channel_arrivals read ++ found_in result.1 self.new.area }
         ensures found { result.1 ≡ true → is_some (arrival_in self.new.area) ≡ true }
         ensures size { result.1 ≡ true → length self.new.area ≤ 65535 }
-        ensures none_before { (taken : List ℕ) (k : ℕ) → HasRead taken self.old → k < result.0 →
-            channel_arrivals (taken ++ take k bytes.now) ≡ channel_arrivals taken }
+        ensures none_before { (read : List ℕ) (k : ℕ) → HasRead read self.old → k < result.0 →
+            channel_arrivals (read ++ take k bytes.now) ≡ channel_arrivals read }
         ensures within { result.0 ≤ length bytes.now }
         ensures all { result.1 ≡ false → result.0 ≡ length bytes.now }
         ensures some { 1 ≤ length bytes.now → 1 ≤ result.0 }

@@ -100,7 +100,7 @@ heard_in [] former bits ii di = BaseLost
 heard_in (row ∷ rows) former bits ii di =
     if fits former bits ii di row then moved former row.more row.less else heard_in rows former bits ii di
 
--- with equal indicators the number is the fourteen bits; with others it is a change, lost without a former number
+-- with unequal indicators it is a change, lost without a former number; with equal ones the number is the 14 bits
 abbrev pub hears_change : (former : Option ℕ) (bits ii di : ℕ) → Heard
 hears_change None bits ii di = BaseLost
 hears_change (Some former) bits ii di = heard_in table former bits ii di

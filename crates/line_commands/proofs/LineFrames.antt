@@ -40,9 +40,9 @@ unfolding slot_bytes_until
 until-none slot bytes = refl
 
 -- a frame that came behind whole ones
-pub until-came : (slot : ℕ) (bytes frame : List ℕ) (i : ℕ) → length bytes ≡ i * 16320 → length frame ≡ 16320
+pub until-further : (slot : ℕ) (bytes frame : List ℕ) (i : ℕ) → length bytes ≡ i * 16320 → length frame ≡ 16320
     → slot_bytes_until slot (bytes ++ frame) (i + 1) ≡ slot_bytes_until slot bytes i ++ slot_bytes slot frame
-until-came slot bytes frame i size wide =
+until-further slot bytes frame i size wide =
     until-more slot (bytes ++ frame) i
     ∙ ap (λ xs. xs ++ slot_bytes slot (frame_at (bytes ++ frame) i)) (until-append slot bytes frame i (omega (arith, size)))
     ∙ ap (λ xs. slot_bytes_until slot bytes i ++ slot_bytes slot xs) (last_frame bytes frame i size wide)

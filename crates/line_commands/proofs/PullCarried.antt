@@ -53,16 +53,16 @@ unfolding line_state
 line_state_next ms t = refl
 
 -- a turn that shows something goes on, and so does the line after it
-goes_on : (own : Tributary) (given : List ℕ) (t : ℕ) (view : View) → own.line_slots ≡ 8 → view_at own given t ≡ Some view
-    → (has_ended (line_state 8 (mfas_of given) t) ≡ false) × (has_ended (line_state 8 (mfas_of given) (suc t)) ≡ false)
+goes_on : (own : Tributary) (available : List ℕ) (t : ℕ) (view : View) → own.line_slots ≡ 8 → view_at own available t ≡ Some view
+    → (has_ended (line_state 8 (mfas_of available) t) ≡ false) × (has_ended (line_state 8 (mfas_of available) (suc t)) ≡ false)
 unfolding view_at
-goes_on own given t view size e =
-    go (multiframe 8 (mfas_of given) t) refl (subst (λ n. turn_view own (option_map (frames_of own.line_slots given) (multiframe n (mfas_of given) t)) ≡ Some view) size e)
+goes_on own available t view size e =
+    go (multiframe 8 (mfas_of available) t) refl (subst (λ n. turn_view own (option_map (frames_of own.line_slots available) (multiframe n (mfas_of available) t)) ≡ Some view) size e)
   where
     ms : List ℕ
-    ms = mfas_of given
+    ms = mfas_of available
 
-    go : (o : Option Lock) → multiframe 8 ms t ≡ o → turn_view own (option_map (frames_of own.line_slots given) o) ≡ Some view
+    go : (o : Option Lock) → multiframe 8 ms t ≡ o → turn_view own (option_map (frames_of own.line_slots available) o) ≡ Some view
         → (has_ended (line_state 8 ms t) ≡ false) × (has_ended (line_state 8 ms (suc t)) ≡ false)
     go None f g = absurd (let bad : ⊥ = cc in bad)
     go (Some lock) f g =
@@ -78,33 +78,33 @@ went_on ms s n h going = go (has_ended (line_state 8 ms s)) refl
     go true e = absurd (let late : has_ended (line_state 8 ms n) ≡ true = stays_ended ms s (n - s) n (omega arith) e in let bad : ⊥ = cc in bad)
 
 -- a turn after which the line has ended shows nothing
-shows_none : (own : Tributary) (given : List ℕ) (t : ℕ) → own.line_slots ≡ 8 → has_ended (line_state 8 (mfas_of given) (suc t)) ≡ true → view_at own given t ≡ None
-shows_none own given t size ended = go (view_at own given t) refl
+shows_none : (own : Tributary) (available : List ℕ) (t : ℕ) → own.line_slots ≡ 8 → has_ended (line_state 8 (mfas_of available) (suc t)) ≡ true → view_at own available t ≡ None
+shows_none own available t size ended = go (view_at own available t) refl
   where
-    go : (o : Option View) → view_at own given t ≡ o → o ≡ None
+    go : (o : Option View) → view_at own available t ≡ o → o ≡ None
     go None e = refl
-    go (Some view) e = absurd (let going = (goes_on own given t view size e).1 in let bad : ⊥ = cc in bad)
+    go (Some view) e = absurd (let going = (goes_on own available t view size e).1 in let bad : ⊥ = cc in bad)
 
 -- ---- their views
 
-arrives : (port : ℕ) (slots given bytes p : List ℕ) (s b u : ℕ) → IsSlotList 8 slots → LineCarries (tributary port slots) given bytes p s b u
-    → Arrives (tributary port slots) bytes p (view_at (tributary port slots) given) 0 s b u
-arrives port slots given bytes p s b u list h = record {
+arrives : (port : ℕ) (slots available bytes p : List ℕ) (s b u : ℕ) → IsSlotList 8 slots → LineCarries (tributary port slots) available bytes p s b u
+    → Arrives (tributary port slots) bytes p (view_at (tributary port slots) available) 0 s b u
+arrives port slots available bytes p s b u list h = record {
   slots = list.taken;
   order = omega arith;
-  whole = λ t low high. whole_at (tributary port slots) given t (is_tributary port slots list);
+  whole = λ t low high. whole_at (tributary port slots) available t (is_tributary port slots list);
   carries = h.carries;
   steady = h.steady;
 }
 
-past_is : (own : Tributary) (given : List ℕ) (n : ℕ) → views_until own given n ≡ past_of (view_at own given) 0 n
+past_is : (own : Tributary) (available : List ℕ) (n : ℕ) → views_until own available n ≡ past_of (view_at own available) 0 n
 unfolding views_until
-past_is own given zero = refl
-past_is own given (suc n) = ap (λ k. view_at own given k ∷ views_until own given n) (let e : n ≡ 0 + n = omega arith in e) ∙ ap (λ past. view_at own given (0 + n) ∷ past) (past_is own given n)
+past_is own available zero = refl
+past_is own available (suc n) = ap (λ k. view_at own available k ∷ views_until own available n) (let e : n ≡ 0 + n = omega arith in e) ∙ ap (λ past. view_at own available (0 + n) ∷ past) (past_is own available n)
 
-emitted_is : (own : Tributary) (given : List ℕ) (t : ℕ) → emitted_at own given t ≡ emission own (signal_byte Ais) (past_of (view_at own given) 0 t) (view_at own given t)
+emitted_is : (own : Tributary) (available : List ℕ) (t : ℕ) → emitted_at own available t ≡ emission own (signal_byte Ais) (past_of (view_at own available) 0 t) (view_at own available t)
 unfolding emitted_at
-emitted_is own given t = ap (λ past. emission own (signal_byte Ais) past (view_at own given t)) (past_is own given t)
+emitted_is own available t = ap (λ past. emission own (signal_byte Ais) past (view_at own available t)) (past_is own available t)
 
 -- ---- turns joined
 
@@ -116,15 +116,15 @@ flat_more f a (suc n) =
     ∙ ap (λ k. (f a ++ flat_map f (range_with_len (a + 1) n)) ++ f k) (let e : a + 1 + n ≡ a + suc n = omega arith in e)
 
 -- what the first turns emit
-joined_is : (own : Tributary) (given : List ℕ) (n : ℕ) → flat_map (emitted_at own given) (range_with_len 0 n) ≡ joined_back (emissions own (signal_byte Ais) (past_of (view_at own given) 0 n))
-joined_is own given zero = refl
-joined_is own given (suc n) =
-    let views = view_at own given in
+joined_is : (own : Tributary) (available : List ℕ) (n : ℕ) → flat_map (emitted_at own available) (range_with_len 0 n) ≡ joined_back (emissions own (signal_byte Ais) (past_of (view_at own available) 0 n))
+joined_is own available zero = refl
+joined_is own available (suc n) =
+    let views = view_at own available in
     let here : n ≡ 0 + n = omega arith in
-    flat_more (emitted_at own given) 0 n
-    ∙ ap (λ xs. xs ++ emitted_at own given (0 + n)) (joined_is own given n)
+    flat_more (emitted_at own available) 0 n
+    ∙ ap (λ xs. xs ++ emitted_at own available (0 + n)) (joined_is own available n)
     ∙ ap (λ xs. joined_back (emissions own (signal_byte Ais) (past_of views 0 n)) ++ xs)
-    (emitted_is own given (0 + n) ∙ ap (λ k. emission own (signal_byte Ais) (past_of views 0 k) (views (0 + n))) (sym here))
+    (emitted_is own available (0 + n) ∙ ap (λ k. emission own (signal_byte Ais) (past_of views 0 k) (views (0 + n))) (sym here))
 
 -- a first part of a longer range
 range_more : (f : ℕ → List ℕ) (a n k : ℕ) → flat_map f (range_with_len a (n + k)) ≡ flat_map f (range_with_len a n) ++ flat_map f (range_with_len (a + n) k)
@@ -150,70 +150,70 @@ flat_slices f xs g a (suc n) up each =
 -- ---- the laws
 
 -- the line goes on up to a turn that carries, and after it
-going_to : (port : ℕ) (slots given bytes p : List ℕ) (s b u : ℕ) → LineCarries (tributary port slots) given bytes p s b u → b ≤ u → (t : ℕ) → t ≤ suc u → has_ended (line_state 8 (mfas_of given) t) ≡ false
-going_to port slots given bytes p s b u h low t high =
+going_to : (port : ℕ) (slots available bytes p : List ℕ) (s b u : ℕ) → LineCarries (tributary port slots) available bytes p s b u → b ≤ u → (t : ℕ) → t ≤ suc u → has_ended (line_state 8 (mfas_of available) t) ≡ false
+going_to port slots available bytes p s b u h low t high =
     let seen = h.carries.each u low (omega arith) in
-    went_on (mfas_of given) t (suc u) high (goes_on (tributary port slots) given u seen.0 refl seen.1.0).1
+    went_on (mfas_of available) t (suc u) high (goes_on (tributary port slots) available u seen.0 refl seen.1.0).1
 
 pub begins_with : BeginsWithWhatIsCarried
-begins_with port slots given bytes p u list h few =
+begins_with port slots available bytes p u list h few =
     let own = tributary port slots in
-    let r = arrives port slots given bytes p 0 0 u list h in
-    let first = written_first own given (suc u) (omega arith) (λ t l. going_to port slots given bytes p 0 0 u h (omega arith) t (omega arith)) in (
+    let r = arrives port slots available bytes p 0 0 u list h in
+    let first = written_first own available (suc u) (omega arith) (λ t l. going_to port slots available bytes p 0 0 u h (omega arith) t (omega arith)) in (
       first.0,
       first.1
-          ∙ ap (λ xs. xs ++ first.0) (joined_is own given (suc u) ∙ joins own (signal_byte Ais) bytes p (view_at own given) 0 u (suc u) r (omega arith)
+          ∙ ap (λ xs. xs ++ first.0) (joined_is own available (suc u) ∙ joins own (signal_byte Ais) bytes p (view_at own available) 0 u (suc u) r (omega arith)
           ∙ ap (λ k. take (sent p k) bytes) (let e : suc u - 2 ≡ u - 1 = omega arith in e)),
     )
 
 pub whole_groups : IsTheWholeGroups
-whole_groups port slots given bytes p u list h few ended =
+whole_groups port slots available bytes p u list h few ended =
     let own = tributary port slots in
-    let views = view_at own given in
+    let views = view_at own available in
     let m = length slots in
-    let r = arrives port slots given bytes p 0 0 u list h in
+    let r = arrives port slots available bytes p 0 0 u list h in
     let two : u + 2 ≡ suc (suc u) = omega arith in
-    let last : has_ended (line_state 8 (mfas_of given) (suc (suc u))) ≡ true = subst (λ n. has_ended (line_state 8 (mfas_of given) n) ≡ true) two ended in
-    let none : views (0 + suc u) ≡ None = ap views (let e : 0 + suc u ≡ suc u = omega arith in e) ∙ shows_none own given (suc u) refl last in
+    let last : has_ended (line_state 8 (mfas_of available) (suc (suc u))) ≡ true = subst (λ n. has_ended (line_state 8 (mfas_of available) n) ≡ true) two ended in
+    let none : views (0 + suc u) ≡ None = ap views (let e : 0 + suc u ≡ suc u = omega arith in e) ∙ shows_none own available (suc u) refl last in
     let up = up_while_carried own bytes p views 0 u r u (omega arith) (omega arith) in
     let down : state_after own (None ∷ past_of views 0 (u + 1 - 0)) ≡ Down = down_without own (past_of views 0 (u + 1 - 0)) up in
     let law = joins_to_whole_groups own (signal_byte Ais) bytes p views 0 u None r (omega arith) tt down in
     let n : u + 1 - 0 ≡ suc u = omega arith in
-    written_all own given (suc (suc u)) (omega arith) (λ t l. going_to port slots given bytes p 0 0 u h (omega arith) t (omega arith)) (inl last)
-    ∙ joined_is own given (suc (suc u))
+    written_all own available (suc (suc u)) (omega arith) (λ t l. going_to port slots available bytes p 0 0 u h (omega arith) t (omega arith)) (inl last)
+    ∙ joined_is own available (suc (suc u))
     ∙ ap (λ v. joined_back (emissions own (signal_byte Ais) (v ∷ past_of views 0 (suc u)))) none
     ∙ ap (λ n. joined_back (emissions own (signal_byte Ais) (None ∷ past_of views 0 n))) (sym n)
     ∙ law
     ∙ ap (λ k. take (m * (sent p k / m)) bytes) (let e : u - 0 ≡ u = omega arith in e)
 
 pub after_damage : HasWhatIsCarriedAfterDamage
-after_damage port slots given bytes p s b u h list carried low anew three few =
+after_damage port slots available bytes p s b u h list carried low anew three few =
     let own = tributary port slots in
-    let views = view_at own given in
-    let r = arrives port slots given bytes p s b u list carried in
+    let views = view_at own available in
+    let r = arrives port slots available bytes p s b u list carried in
     let order = carried.carries.order in
-    let first = written_first own given (suc u) (omega arith) (λ t l. going_to port slots given bytes p s b u carried (omega arith) t (omega arith)) in
+    let first = written_first own available (suc u) (omega arith) (λ t l. going_to port slots available bytes p s b u carried (omega arith) t (omega arith)) in
     let k = u - h - 2 in
     let all : suc u ≡ h + 3 + k = omega arith in
     let g : ℕ → ℕ = λ i. sent p (h + 1 - s + i) in
-    let emits : (i : ℕ) → i < k → emitted_at own given (h + 3 + i) ≡ slice_range bytes (g i) (g (suc i)) =
+    let emits : (i : ℕ) → i < k → emitted_at own available (h + 3 + i) ≡ slice_range bytes (g i) (g (suc i)) =
     λ i l.
     let t = h + 3 + i in
     let law : EmitsTwoLater own (signal_byte Ais) bytes p views 0 s t = emits_after_damage own (signal_byte Ais) bytes p views 0 s b u h r low anew t (omega arith) (omega arith) in
-    emitted_is own given t
+    emitted_is own available t
     ∙ ap (λ n. emission own (signal_byte Ais) (past_of views 0 n) (views t)) (let e : t ≡ t - 0 = omega arith in e)
     ∙ law
     ∙ ap (λ n. slice_range bytes (sent p n) (sent p (t - s - 1))) (let e : t - s - 2 ≡ h + 1 - s + i = omega arith in e)
     ∙ ap (λ n. slice_range bytes (g i) (sent p n)) (let e : t - s - 1 ≡ h + 1 - s + suc i = omega arith in e) in
-    let carries : flat_map (emitted_at own given) (range_with_len (0 + (h + 3)) k) ≡ slice_range bytes (sent p (h + 1 - s)) (sent p (u - s - 1)) =
-    ap (λ a. flat_map (emitted_at own given) (range_with_len a k)) (let e : 0 + (h + 3) ≡ h + 3 = omega arith in e)
-    ∙ flat_slices (emitted_at own given) bytes g (h + 3) k (λ i j l. sent_up p (h + 1 - s + i) (h + 1 - s + j) (omega arith)) emits
+    let carries : flat_map (emitted_at own available) (range_with_len (0 + (h + 3)) k) ≡ slice_range bytes (sent p (h + 1 - s)) (sent p (u - s - 1)) =
+    ap (λ a. flat_map (emitted_at own available) (range_with_len a k)) (let e : 0 + (h + 3) ≡ h + 3 = omega arith in e)
+    ∙ flat_slices (emitted_at own available) bytes g (h + 3) k (λ i j l. sent_up p (h + 1 - s + i) (h + 1 - s + j) (omega arith)) emits
     ∙ ap (λ n. slice_range bytes (sent p n) (g k)) (let e : h + 1 - s + 0 ≡ h + 1 - s = omega arith in e)
     ∙ ap (λ n. slice_range bytes (sent p (h + 1 - s)) (sent p n)) (let e : h + 1 - s + k ≡ u - s - 1 = omega arith in e) in (
       first.0,
       first.1
-          ∙ ap (λ n. flat_map (emitted_at own given) (range_with_len 0 n) ++ first.0) all
-          ∙ ap (λ xs. xs ++ first.0) (range_more (emitted_at own given) 0 (h + 3) k)
-          ∙ append_assoc (flat_map (emitted_at own given) (range_with_len 0 (h + 3))) (flat_map (emitted_at own given) (range_with_len (0 + (h + 3)) k)) first.0
-          ∙ ap (λ xs. flat_map (emitted_at own given) (range_with_len 0 (h + 3)) ++ (xs ++ first.0)) carries,
+          ∙ ap (λ n. flat_map (emitted_at own available) (range_with_len 0 n) ++ first.0) all
+          ∙ ap (λ xs. xs ++ first.0) (range_more (emitted_at own available) 0 (h + 3) k)
+          ∙ append_assoc (flat_map (emitted_at own available) (range_with_len 0 (h + 3))) (flat_map (emitted_at own available) (range_with_len (0 + (h + 3)) k)) first.0
+          ∙ ap (λ xs. flat_map (emitted_at own available) (range_with_len 0 (h + 3)) ++ (xs ++ first.0)) carries,
     )

@@ -14,13 +14,13 @@ use Rattle.line_commands.specs.PullReport.{tributary, turns_of, pull_report}
 use Rattle.line_commands.specs.PullDamaged.{LinesDifferInOneMessage, WritesAsIfRepeated}
 use Rattle.line_commands.proofs.PullWorlds.{same_flat}
 
-views_next : (own : Tributary) (given : List ℕ) (n : ℕ) → views_until own given (suc n) ≡ view_at own given n ∷ views_until own given n
+views_next : (own : Tributary) (available : List ℕ) (n : ℕ) → views_until own available (suc n) ≡ view_at own available n ∷ views_until own available n
 unfolding views_until
-views_next own given n = refl
+views_next own available n = refl
 
-emitted_of : (own : Tributary) (given : List ℕ) (t : ℕ) → emitted_at own given t ≡ emission own (signal_byte Ais) (views_until own given t) (view_at own given t)
+emitted_of : (own : Tributary) (available : List ℕ) (t : ℕ) → emitted_at own available t ≡ emission own (signal_byte Ais) (views_until own available t) (view_at own available t)
 unfolding emitted_at
-emitted_of own given t = refl
+emitted_of own available t = refl
 
 -- the turns before are the same
 same_before : (own : Tributary) (one other : List ℕ) (i n : ℕ) → LinesDifferInOneMessage own one other i → n ≤ i → views_until own one n ≡ views_until own other n
@@ -31,8 +31,8 @@ same_before own one other i (suc n) d h =
 
 -- the views of k turns behind turn i + 1, the last first
 behind : Tributary → List ℕ → (i k : ℕ) → List (Option View)
-behind own given i zero = []
-behind own given i (suc k) = view_at own given (i + suc k) ∷ behind own given i k
+behind own available i zero = []
+behind own available i (suc k) = view_at own available (i + suc k) ∷ behind own available i k
 
 same_behind : (own : Tributary) (one other : List ℕ) (i k : ℕ) → LinesDifferInOneMessage own one other i → behind own one i k ≡ behind own other i k
 unfolding behind
@@ -40,13 +40,13 @@ same_behind own one other i zero d = refl
 same_behind own one other i (suc k) d =
     ap (λ v. v ∷ behind own one i k) (d.views (i + suc k) (λ e. omega arith)) ∙ ap (λ past. view_at own other (i + suc k) ∷ past) (same_behind own one other i k d)
 
-split_at : (own : Tributary) (given : List ℕ) (i k : ℕ) → views_until own given (i + suc k) ≡ behind own given i k ++ (view_at own given i ∷ views_until own given i)
+split_at : (own : Tributary) (available : List ℕ) (i k : ℕ) → views_until own available (i + suc k) ≡ behind own available i k ++ (view_at own available i ∷ views_until own available i)
 unfolding behind
-split_at own given i zero = ap (views_until own given) (let e : i + suc zero ≡ suc i = omega arith in e) ∙ views_next own given i
-split_at own given i (suc k) =
-    ap (views_until own given) (let e : i + suc (suc k) ≡ suc (i + suc k) = omega arith in e)
-    ∙ views_next own given (i + suc k)
-    ∙ ap (λ past. view_at own given (i + suc k) ∷ past) (split_at own given i k)
+split_at own available i zero = ap (views_until own available) (let e : i + suc zero ≡ suc i = omega arith in e) ∙ views_next own available i
+split_at own available i (suc k) =
+    ap (views_until own available) (let e : i + suc (suc k) ≡ suc (i + suc k) = omega arith in e)
+    ∙ views_next own available (i + suc k)
+    ∙ ap (λ past. view_at own available (i + suc k) ∷ past) (split_at own available i k)
 
 -- all turns of the two lines up to turn i + 1 + k
 first_list : (own : Tributary) (one other : List ℕ) (i k : ℕ) → (d : LinesDifferInOneMessage own one other i) → views_until own one (i + suc k) ≡ behind own one i k ++ (Some d.view ∷ views_until own one i)
@@ -65,8 +65,8 @@ abbrev last_emission : List (List ℕ) → List ℕ
 last_emission [] = []
 last_emission (last ∷ before) = last
 
-emissions_next : (own : Tributary) (given : List ℕ) (t : ℕ) → last_emission (emissions own (signal_byte Ais) (views_until own given (suc t))) ≡ emitted_at own given t
-emissions_next own given t = ap (λ past. last_emission (emissions own (signal_byte Ais) past)) (views_next own given t) ∙ sym (emitted_of own given t)
+emissions_next : (own : Tributary) (available : List ℕ) (t : ℕ) → last_emission (emissions own (signal_byte Ais) (views_until own available (suc t))) ≡ emitted_at own available t
+emissions_next own available t = ap (λ past. last_emission (emissions own (signal_byte Ais) past)) (views_next own available t) ∙ sym (emitted_of own available t)
 
 same_late : (own : Tributary) (one other : List ℕ) (i k : ℕ) → LinesDifferInOneMessage own one other i → emitted_at own one (i + k) ≡ emitted_at own other (i + k)
 same_late own one other i k d =

@@ -60,50 +60,50 @@ between ms t = let none = none_wanted ms t in omega (arith, none)
 
 -- the whole frames among those that the turns wanted
 abbrev pub frames_there : List ℕ → ℕ
-frames_there given = min (length (mfas_of given)) (frames_wanted given)
+frames_there available = min (length (mfas_of available)) (frames_wanted available)
 
 -- as many bytes were taken, or all that there are
-pub record TookWanted (given taken : List ℕ) (r : ReaderView) : Type 0 where
-  pub still : r.ending ≡ Open → (length taken ≡ 16320 * frames_there given) × (frames_there given ≡ frames_wanted given)
-  pub over : r.ending ≢ Open → (length taken ≡ length given) × (frames_there given ≡ length given / 16320) × (length given < 16320 * frames_wanted given)
-  pub rest : r.ending ≡ Seen → r.rest ≡ length given % 16320
+pub record TookWanted (available read : List ℕ) (r : ReaderView) : Type 0 where
+  pub still : r.ending ≡ Open → (length read ≡ 16320 * frames_there available) × (frames_there available ≡ frames_wanted available)
+  pub over : r.ending ≢ Open → (length read ≡ length available) × (frames_there available ≡ length available / 16320) × (length available < 16320 * frames_wanted available)
+  pub rest : r.ending ≡ Seen → r.rest ≡ length available % 16320
 
-took_read : (given taken : List ℕ) (u : ℕ) (r : ReaderView) → HasRead given (length taken) u (frames_wanted given) r → TookWanted given taken r
-took_read given taken u r h = record {
+took_read : (available read : List ℕ) (u : ℕ) (r : ReaderView) → HasRead available (length read) u (frames_wanted available) r → TookWanted available read r
+took_read available read u r h = record {
   still = λ on.
       let s = h.still on in
       let within = h.within in
-      let size = length_mfas given in
-      let all : frames_there given ≡ u + count_of r.ahead = omega (arith, s.1, within, size) in
+      let size = length_mfas available in
+      let all : frames_there available ≡ u + count_of r.ahead = omega (arith, s.1, within, size) in
       (s.0 ∙ ap (λ n. 16320 * n) (sym all), all ∙ s.1);
   over = λ closed.
       let o = h.over closed in
-      let size = length_mfas given in
+      let size = length_mfas available in
       (o.1, omega (arith, o.0, o.2, size), omega (arith, o.2));
-  rest = λ seen. h.rest ∙ ap (λ e. rest_of e given) seen;
+  rest = λ seen. h.rest ∙ ap (λ e. rest_of e available) seen;
 }
 
-pub took_wanted : (given taken : List ℕ) (t : ℕ) (line : LineView) → IsLine 8 given (length taken) t line → line.pieces ≡ 0 → length (turns_of (mfas_of given)) ≡ t → TookWanted given taken line.reader
-took_wanted given taken t line is none count =
-    let read = subst (λ k. HasRead given (length taken) (used_in 8 (mfas_of given) (line_state 8 (mfas_of given) t) k) (wanted_so_far 8 (mfas_of given) t k) line.reader) none is.read in
-    let turns = between (mfas_of given) t ∙ ap (wanted 8 (mfas_of given)) (sym count) in
-    took_read given taken (used_in 8 (mfas_of given) (line_state 8 (mfas_of given) t) 0) line.reader
-    (subst (λ w. HasRead given (length taken) (used_in 8 (mfas_of given) (line_state 8 (mfas_of given) t) 0) w line.reader) turns read)
+pub took_wanted : (available read : List ℕ) (t : ℕ) (line : LineView) → IsLine 8 available (length read) t line → line.pieces ≡ 0 → length (turns_of (mfas_of available)) ≡ t → TookWanted available read line.reader
+took_wanted available read t line is none count =
+    let has_read = subst (λ k. HasRead available (length read) (used_in 8 (mfas_of available) (line_state 8 (mfas_of available) t) k) (wanted_so_far 8 (mfas_of available) t k) line.reader) none is.read in
+    let turns = between (mfas_of available) t ∙ ap (wanted 8 (mfas_of available)) (sym count) in
+    took_read available read (used_in 8 (mfas_of available) (line_state 8 (mfas_of available) t) 0) line.reader
+    (subst (λ w. HasRead available (length read) (used_in 8 (mfas_of available) (line_state 8 (mfas_of available) t) 0) w line.reader) turns has_read)
 
 -- so many bytes were taken in the turns so far
-took_of : (given taken : List ℕ) (u w : ℕ) (r : ReaderView) → HasRead given (length taken) u w r → (e : Ending) → r.ending ≡ e → length taken ≡ min (length given) (16320 * w)
-took_of given taken u w r h Open e =
+took_of : (available read : List ℕ) (u w : ℕ) (r : ReaderView) → HasRead available (length read) u w r → (e : Ending) → r.ending ≡ e → length read ≡ min (length available) (16320 * w)
+took_of available read u w r h Open e =
     let s = h.still e in
-    let size = length_mfas given in
+    let size = length_mfas available in
     let within = h.within in
     omega (arith, s.0, s.1, within, size)
-took_of given taken u w r h Seen e = let o = h.over (λ f. cc) in omega (arith, o.1, o.2)
-took_of given taken u w r h Died e = let o = h.over (λ f. cc) in omega (arith, o.1, o.2)
+took_of available read u w r h Seen e = let o = h.over (λ f. cc) in omega (arith, o.1, o.2)
+took_of available read u w r h Died e = let o = h.over (λ f. cc) in omega (arith, o.1, o.2)
 
-pub took_so_far : (given taken : List ℕ) (t : ℕ) (line : LineView) → IsLine 8 given (length taken) t line → line.pieces ≡ 0 → length taken ≡ bytes_wanted given t
-took_so_far given taken t line is none =
-    let read = subst (λ k. HasRead given (length taken) (used_in 8 (mfas_of given) (line_state 8 (mfas_of given) t) k) (wanted_so_far 8 (mfas_of given) t k) line.reader) none is.read in
-    let turns = between (mfas_of given) t in
-    took_of given taken (used_in 8 (mfas_of given) (line_state 8 (mfas_of given) t) 0) (wanted 8 (mfas_of given) t) line.reader
-    (subst (λ w. HasRead given (length taken) (used_in 8 (mfas_of given) (line_state 8 (mfas_of given) t) 0) w line.reader) turns read)
+pub took_so_far : (available read : List ℕ) (t : ℕ) (line : LineView) → IsLine 8 available (length read) t line → line.pieces ≡ 0 → length read ≡ bytes_wanted available t
+took_so_far available read t line is none =
+    let has_read = subst (λ k. HasRead available (length read) (used_in 8 (mfas_of available) (line_state 8 (mfas_of available) t) k) (wanted_so_far 8 (mfas_of available) t k) line.reader) none is.read in
+    let turns = between (mfas_of available) t in
+    took_of available read (used_in 8 (mfas_of available) (line_state 8 (mfas_of available) t) 0) (wanted 8 (mfas_of available) t) line.reader
+    (subst (λ w. HasRead available (length read) (used_in 8 (mfas_of available) (line_state 8 (mfas_of available) t) 0) w line.reader) turns has_read)
     line.reader.ending refl

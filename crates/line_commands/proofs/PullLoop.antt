@@ -37,21 +37,21 @@ use Rattle.line_commands.proofs.SlotLoop.{after-none, part_after}
 
 -- the turns so far: t of them, and the line had not ended before any
 pub record TurnsSoFar (own : Tributary) (first now : InView) (t : ℕ) (tap : TapView) (old new : Option (List ℕ)) : Type 0 where
-  pub taken : List ℕ
-  pub stands : TapStands own first now taken t tap
-  pub report : (given : List ℕ) → MayBe false tap.line.reader.ending taken given → new ≡ after old (emitted_until own given t)
-  pub unended : (given : List ℕ) → MayBe false tap.line.reader.ending taken given → (s : ℕ) → s < t → has_ended (line_state 8 (mfas_of given) s) ≡ false
+  pub read : List ℕ
+  pub stands : TapStands own first now read t tap
+  pub report : (available : List ℕ) → MayBe false tap.line.reader.ending read available → new ≡ after old (emitted_until own available t)
+  pub unended : (available : List ℕ) → MayBe false tap.line.reader.ending read available → (s : ℕ) → s < t → has_ended (line_state 8 (mfas_of available) s) ≡ false
 
 -- whether the line has ended after these turns
 abbrev pub HasLast : (own : Tributary) (first now : InView) (t : ℕ) (tap : TapView) (old new : Option (List ℕ)) → TurnsSoFar own first now t tap old new → Bool → Type 0
 HasLast own first now t tap old new h ended =
-    (given : List ℕ) → MayBe false tap.line.reader.ending h.taken given → has_ended (line_state 8 (mfas_of given) t) ≡ ended
+    (available : List ℕ) → MayBe false tap.line.reader.ending h.read available → has_ended (line_state 8 (mfas_of available) t) ≡ ended
 
 -- one turn more
-emitted_more : (own : Tributary) (given : List ℕ) (t : ℕ) → emitted_until own given (t + 1) ≡ emitted_until own given t ++ emitted_at own given t
-emitted_more own given t =
+emitted_more : (own : Tributary) (available : List ℕ) (t : ℕ) → emitted_until own available (t + 1) ≡ emitted_until own available t ++ emitted_at own available t
+emitted_more own available t =
     let last : 0 + t ≡ t = omega arith in
-    flat_map-range_more (emitted_at own given) 0 t ∙ ap (λ s. emitted_until own given t ++ emitted_at own given s) last
+    flat_map-range_more (emitted_at own available) 0 t ∙ ap (λ s. emitted_until own available t ++ emitted_at own available s) last
 
 -- a line hunts before its first turn
 first_open : (ms : List ℕ) → has_ended (line_state 8 ms 0) ≡ false
@@ -63,12 +63,12 @@ pub turns_none : (own : Tributary) (first : InView) (tap : TapView) (got : Optio
     → (h : TurnsSoFar own first first 0 tap got got) × HasLast own first first 0 tap got got h false
 turns_none own first tap got stands = (
   record {
-    taken = [];
+    read = [];
     stands = stands first;
-    report = λ given may. after-none got;
-    unended = λ given may s before. absurd (omega (arith, before));
+    report = λ available may. after-none got;
+    unended = λ available may s before. absurd (omega (arith, before));
   },
-  λ given may. first_open (mfas_of given),
+  λ available may. first_open (mfas_of available),
 )
 
 -- a number below t + 1 is below t, or is t
@@ -91,20 +91,20 @@ still_unended ms t before last s within = by_place (last_or_before s t within)
 -- a turn more, after which the line has ended or not
 pub turns_more : (own : Tributary) (first was now : InView) (t : ℕ) (before later : TapView) (old gained new : Option (List ℕ)) (ended : Bool) (answer : After)
     → (h : TurnsSoFar own first was t before old gained) → HasLast own first was t before old gained h false
-    → (run : TurnRun own first now h.taken t before later gained new answer) → (new ≡ after gained run.emitted) × (later.line.ended ≡ ended)
+    → (run : TurnRun own first now h.read t before later gained new answer) → (new ≡ after gained run.emitted) × (later.line.ended ≡ ended)
     → (k : TurnsSoFar own first now (t + 1) later old new) × HasLast own first now (t + 1) later old new k ended
 turns_more own first was now t before later old gained new ended answer h last run wrote = (
   record {
-    taken = h.taken ++ run.moves.came;
+    read = h.read ++ run.moves.further;
     stands = run.moves.stands;
-    report = λ given may.
-        wrote.0 ∙ ap (λ r. after r run.emitted) (h.report given (run.moves.earlier given may)) ∙ after-after old (emitted_until own given t) run.emitted
-        ∙ ap (λ xs. after old (emitted_until own given t ++ xs)) (run.moves.emits given may) ∙ ap (after old) (sym (emitted_more own given t));
-    unended = λ given may.
-        let earlier = run.moves.earlier given may in
-        still_unended (mfas_of given) t (h.unended given earlier) (last given earlier);
+    report = λ available may.
+        wrote.0 ∙ ap (λ r. after r run.emitted) (h.report available (run.moves.earlier available may)) ∙ after-after old (emitted_until own available t) run.emitted
+        ∙ ap (λ xs. after old (emitted_until own available t ++ xs)) (run.moves.emits available may) ∙ ap (after old) (sym (emitted_more own available t));
+    unended = λ available may.
+        let earlier = run.moves.earlier available may in
+        still_unended (mfas_of available) t (h.unended available earlier) (last available earlier);
   },
-  λ given may. sym (run.moves.ended given may) ∙ wrote.1,
+  λ available may. sym (run.moves.ended available may) ∙ wrote.1,
 )
 
 -- ---- how it ends
@@ -112,11 +112,11 @@ turns_more own first was now t before later old gained new ended answer h last r
 -- a part of the first bytes is a part of all
 part_before : (old new : Option (List ℕ)) (bytes rest : List ℕ) → GainsPart old new bytes → GainsPart old new (bytes ++ rest)
 part_before old new bytes rest h =
-    let within : h.went ≤ length bytes = omega (arith, h.part) in
+    let within : h.written ≤ length bytes = omega (arith, h.part) in
     record {
-      went = h.went;
+      written = h.written;
       part = omega (arith, h.part, length-append bytes rest);
-      gained = h.gained ∙ ap (after old) (sym (take-append-le h.went bytes rest within));
+      gained = h.gained ∙ ap (after old) (sym (take-append-le h.written bytes rest within));
     }
 
 -- whether more may come of a line
@@ -125,10 +125,10 @@ may_come Open = true
 may_come Seen = false
 may_come Died = false
 
-follows : (ending : Ending) (taken rest : List ℕ) → MayFollow (may_come ending) rest → MayBe false ending taken (taken ++ rest)
-follows Open taken rest follow = record { rest = rest; over = λ closed. absurd (closed refl); parts = refl }
-follows Seen taken rest follow = record { rest = rest; over = λ closed. follow; parts = refl }
-follows Died taken rest follow = record { rest = rest; over = λ closed. follow; parts = refl }
+follows : (ending : Ending) (read rest : List ℕ) → MayFollow (may_come ending) rest → MayBe false ending read (read ++ rest)
+follows Open read rest follow = record { rest = rest; over = λ closed. absurd (closed refl); parts = refl }
+follows Seen read rest follow = record { rest = rest; over = λ closed. follow; parts = refl }
+follows Died read rest follow = record { rest = rest; over = λ closed. follow; parts = refl }
 
 closed_is : (ending : Ending) → may_come ending ≡ false → ending ≢ Open
 closed_is Open e = absurd (cc)
@@ -138,34 +138,34 @@ closed_is Died e = λ f. cc
 -- with a write that failed
 pub turns_lost : (own : Tributary) (first was now : InView) (t : ℕ) (before later : TapView) (old gained new : Option (List ℕ))
     → (h : TurnsSoFar own first was t before old gained) → HasLast own first was t before old gained h false → t < 16384
-    → TurnRun own first now h.taken t before later gained new next.ReportFailed → later.line.pieces ≡ 0 → PullEnded own first now old new ReportFault
+    → TurnRun own first now h.read t before later gained new next.ReportFailed → later.line.pieces ≡ 0 → PullEnded own first now old new ReportFault
 turns_lost own first was now t before later old gained new h last few run none = record {
-  taken = h.taken ++ run.moves.came;
+  read = h.read ++ run.moves.further;
   gave = run.moves.stands.line.gave;
   more = may_come later.line.reader.ending;
   over = λ none live. run.moves.stands.line.over (closed_is later.line.reader.ending none) live;
-  died = died_unended plain_otu2 first now (h.taken ++ run.moves.came) (t + 1) later.line run.moves.stands.line;
+  died = died_unended plain_otu2 first now (h.read ++ run.moves.further) (t + 1) later.line run.moves.stands.line;
   report = λ rest follow.
-      let given = (h.taken ++ run.moves.came) ++ rest in
-      let may = follows later.line.reader.ending (h.taken ++ run.moves.came) rest follow in
-      let earlier = run.moves.earlier given may in
-      let part = part_after old gained new (emitted_until own given t) run.emitted (h.report given earlier) run.wrote in
-      let turn = ap (λ xs. emitted_until own given t ++ xs) (run.moves.emits given may) ∙ sym (emitted_more own given t) in
-      let all = written_first own given (t + 1) (omega arith) (still_unended (mfas_of given) t (h.unended given earlier) (last given earlier)) in
-      subst (GainsPart old new) (sym all.1) (part_before old new (emitted_until own given (t + 1)) all.0 (subst (GainsPart old new) turn part));
+      let available = (h.read ++ run.moves.further) ++ rest in
+      let may = follows later.line.reader.ending (h.read ++ run.moves.further) rest follow in
+      let earlier = run.moves.earlier available may in
+      let part = part_after old gained new (emitted_until own available t) run.emitted (h.report available earlier) run.wrote in
+      let turn = ap (λ xs. emitted_until own available t ++ xs) (run.moves.emits available may) ∙ sym (emitted_more own available t) in
+      let all = written_first own available (t + 1) (omega arith) (still_unended (mfas_of available) t (h.unended available earlier) (last available earlier)) in
+      subst (GainsPart old new) (sym all.1) (part_before old new (emitted_until own available (t + 1)) all.0 (subst (GainsPart old new) turn part));
   ends = tt;
   took = λ other. absurd (other refl);
   stopped = λ _. (
     t,
     λ rest follow.
-        let given = (h.taken ++ run.moves.came) ++ rest in
-        let may = follows later.line.reader.ending (h.taken ++ run.moves.came) rest follow in
-        let earlier = run.moves.earlier given may in
+        let available = (h.read ++ run.moves.further) ++ rest in
+        let may = follows later.line.reader.ending (h.read ++ run.moves.further) rest follow in
+        let earlier = run.moves.earlier available may in
         record {
           few = few;
-          unended = λ s within. still_unended (mfas_of given) t (h.unended given earlier) (last given earlier) s (omega (arith, within));
-          last = took_so_far given (h.taken ++ run.moves.came) (t + 1) later.line (run.moves.stands.line.is_line given may) none;
-          gained = subst (λ r. GainsPart r new (emitted_at own given t)) (h.report given earlier) (subst (GainsPart gained new) (run.moves.emits given may) run.wrote);
+          unended = λ s within. still_unended (mfas_of available) t (h.unended available earlier) (last available earlier) s (omega (arith, within));
+          last = took_so_far available (h.read ++ run.moves.further) (t + 1) later.line (run.moves.stands.line.is_line available may) none;
+          gained = subst (λ r. GainsPart r new (emitted_at own available t)) (h.report available earlier) (subst (GainsPart gained new) (run.moves.emits available may) run.wrote);
         },
   );
 }
@@ -176,30 +176,30 @@ open_is Seen a b = absurd (a refl)
 open_is Died a b = absurd (b refl)
 
 -- a place that is not dead was not dead before
-pub was_alive : (was now : InView) (came : List ℕ) → Gave was came now → now.state ≢ Dead → was.state ≢ Dead
-was_alive was now came gave alive dead =
+pub was_alive : (was now : InView) (further : List ℕ) → Gave was further now → now.state ≢ Dead → was.state ≢ Dead
+was_alive was now further gave alive dead =
     let idle : was.state ≢ Live = λ live. let e : Dead ≡ Live = sym dead ∙ live in absurd (cc) in
     alive (ap (λ (v : InView). v.state) (gave.idle idle).0 ∙ dead)
 
 -- all that was taken is what a line may have
-itself : (ending : Ending) (taken : List ℕ) → MayBe false ending taken taken
-itself ending taken = record { rest = []; over = λ _. refl; parts = sym (append-nil taken) }
+itself : (ending : Ending) (read : List ℕ) → MayBe false ending read read
+itself ending read = record { rest = []; over = λ _. refl; parts = sym (append-nil read) }
 
-alone : (ending : Ending) (taken rest : List ℕ) → rest ≡ [] → MayBe false ending taken (taken ++ rest)
-alone ending taken rest none = record { rest = rest; over = λ _. none; parts = refl }
+alone : (ending : Ending) (read rest : List ℕ) → rest ≡ [] → MayBe false ending read (read ++ rest)
+alone ending read rest none = record { rest = rest; over = λ _. none; parts = refl }
 
 -- after the last turn: of all that the line may have, its report is written, and what the turns wanted was taken
-record AllTurns (own : Tributary) (taken : List ℕ) (line : LineView) (old new : Option (List ℕ)) : Type 0 where
-  pub report : (given : List ℕ) → MayBe false line.reader.ending taken given → new ≡ after old (pull_report own given)
-  pub took : (given : List ℕ) → MayBe false line.reader.ending taken given → TookWanted given taken line.reader
+record AllTurns (own : Tributary) (read : List ℕ) (line : LineView) (old new : Option (List ℕ)) : Type 0 where
+  pub report : (available : List ℕ) → MayBe false line.reader.ending read available → new ≡ after old (pull_report own available)
+  pub took : (available : List ℕ) → MayBe false line.reader.ending read available → TookWanted available read line.reader
 
 all_turns : (own : Tributary) (first was : InView) (t : ℕ) (tap : TapView) (old new : Option (List ℕ)) → (h : TurnsSoFar own first was t tap old new) → t ≤ 16384
-    → ((given : List ℕ) → MayBe false tap.line.reader.ending h.taken given → (has_ended (line_state 8 (mfas_of given) t) ≡ true) ⊎ (t ≡ 16384))
-    → tap.line.pieces ≡ 0 → AllTurns own h.taken tap.line old new
+    → ((available : List ℕ) → MayBe false tap.line.reader.ending h.read available → (has_ended (line_state 8 (mfas_of available) t) ≡ true) ⊎ (t ≡ 16384))
+    → tap.line.pieces ≡ 0 → AllTurns own h.read tap.line old new
 all_turns own first was t tap old new h few last none = record {
-  report = λ given may. h.report given may ∙ ap (after old) (sym (written_all own given t few (h.unended given may) (last given may)));
-  took = λ given may.
-      took_wanted given h.taken t tap.line (h.stands.line.is_line given may) none (turn_count (mfas_of given) t few (h.unended given may) (last given may));
+  report = λ available may. h.report available may ∙ ap (after old) (sym (written_all own available t few (h.unended available may) (last available may)));
+  took = λ available may.
+      took_wanted available h.read t tap.line (h.stands.line.is_line available may) none (turn_count (mfas_of available) t few (h.unended available may) (last available may));
 }
 
 -- nothing is left after the whole frames, where the end was seen
@@ -222,23 +222,23 @@ open_least n m frames a b = omega (arith, a, b)
 closed_least : (n m frames : ℕ) → n ≡ m → m < 16320 * frames → n ≡ min m (16320 * frames + 1)
 closed_least n m frames a b = omega (arith, a, b)
 
-alone_took : (own : Tributary) (taken : List ℕ) (line : LineView) (old new : Option (List ℕ)) → AllTurns own taken line old new
-    → (rest : List ℕ) → rest ≡ [] → length taken ≡ bytes_taken (taken ++ rest)
-alone_took own taken line old new all rest none = by_ending line.reader.ending refl
+alone_took : (own : Tributary) (read : List ℕ) (line : LineView) (old new : Option (List ℕ)) → AllTurns own read line old new
+    → (rest : List ℕ) → rest ≡ [] → length read ≡ bytes_taken (read ++ rest)
+alone_took own read line old new all rest none = by_ending line.reader.ending refl
   where
-    took : TookWanted (taken ++ rest) taken line.reader
-    took = all.took (taken ++ rest) (alone line.reader.ending taken rest none)
+    took : TookWanted (read ++ rest) read line.reader
+    took = all.took (read ++ rest) (alone line.reader.ending read rest none)
 
-    same : length (taken ++ rest) ≡ length taken
-    same = ap length (ap (λ xs. taken ++ xs) none ∙ append-nil taken)
+    same : length (read ++ rest) ≡ length read
+    same = ap length (ap (λ xs. read ++ xs) none ∙ append-nil read)
 
-    closed : line.reader.ending ≢ Open → length taken ≡ bytes_taken (taken ++ rest)
-    closed ended = let o = took.over ended in closed_least (length taken) (length (taken ++ rest)) (frames_wanted (taken ++ rest)) o.0 o.2
+    closed : line.reader.ending ≢ Open → length read ≡ bytes_taken (read ++ rest)
+    closed ended = let o = took.over ended in closed_least (length read) (length (read ++ rest)) (frames_wanted (read ++ rest)) o.0 o.2
 
-    by_ending : (e : Ending) → line.reader.ending ≡ e → length taken ≡ bytes_taken (taken ++ rest)
+    by_ending : (e : Ending) → line.reader.ending ≡ e → length read ≡ bytes_taken (read ++ rest)
     by_ending Open e =
         let s = took.still e in
-        open_least (length taken) (length (taken ++ rest)) (frames_wanted (taken ++ rest)) (s.0 ∙ ap (λ n. 16320 * n) s.1) same
+        open_least (length read) (length (read ++ rest)) (frames_wanted (read ++ rest)) (s.0 ∙ ap (λ n. 16320 * n) s.1) same
     by_ending Seen e = closed (λ f. cc)
     by_ending Died e = closed (λ f. cc)
 
@@ -247,124 +247,124 @@ more_least : (n more m frames : ℕ) → n ≡ 16320 * frames → more ≡ n + 1
 more_least n more m frames a b c = omega (arith, a, b, c)
 
 -- the end was seen
-seen_ends : (own : Tributary) (first now : InView) (taken : List ℕ) (line : LineView) (old new : Option (List ℕ)) → AllTurns own taken line old new
-    → Gave first taken now → now.state ≢ Dead → (now.state ≡ Live → HasEnded now.left now.ended) → line.reader.ending ≡ Seen
+seen_ends : (own : Tributary) (first now : InView) (read : List ℕ) (line : LineView) (old new : Option (List ℕ)) → AllTurns own read line old new
+    → Gave first read now → now.state ≢ Dead → (now.state ≡ Live → HasEnded now.left now.ended) → line.reader.ending ≡ Seen
     → ((line.reader.rest ≡ 0) → PullEnded own first now old new Done) × ((0 < line.reader.rest) → PullEnded own first now old new Unfinished)
-seen_ends own first now taken line old new all gave alive over seen =
-    let took = all.took taken (itself line.reader.ending taken) in
+seen_ends own first now read line old new all gave alive over seen =
+    let took = all.took read (itself line.reader.ending read) in
     let closed : line.reader.ending ≢ Open = λ e. let f : Seen ≡ Open = sym seen ∙ e in absurd (cc) in (
       λ none.
-          let n = no_rest (length taken) (frames_there taken) line.reader.rest (took.over closed).1 (took.rest seen) none in
+          let n = no_rest (length read) (frames_there read) line.reader.rest (took.over closed).1 (took.rest seen) none in
           record {
-            taken = taken;
+            read = read;
             gave = gave;
             more = false;
             over = λ _ live. over live;
             died = λ dead. absurd (alive dead);
-            report = λ rest follow. all.report (taken ++ rest) (alone line.reader.ending taken rest follow);
+            report = λ rest follow. all.report (read ++ rest) (alone line.reader.ending read rest follow);
             ends = (alive, refl, n.0, n.1);
-            took = λ other rest follow. alone_took own taken line old new all rest follow;
+            took = λ other rest follow. alone_took own read line old new all rest follow;
             stopped = λ e. absurd (cc);
           },
       λ some.
-          let n = some_rest (length taken) (frames_there taken) line.reader.rest (took.over closed).1 (took.rest seen) some in
+          let n = some_rest (length read) (frames_there read) line.reader.rest (took.over closed).1 (took.rest seen) some in
           record {
-            taken = taken;
+            read = read;
             gave = gave;
             more = false;
             over = λ _ live. over live;
             died = λ dead. absurd (alive dead);
-            report = λ rest follow. all.report (taken ++ rest) (alone line.reader.ending taken rest follow);
-            ends = (alive, λ rest follow. subst LeavesBytes (sym (ap (λ xs. taken ++ xs) follow ∙ append-nil taken)) n.0, n.1);
-            took = λ other rest follow. alone_took own taken line old new all rest follow;
+            report = λ rest follow. all.report (read ++ rest) (alone line.reader.ending read rest follow);
+            ends = (alive, λ rest follow. subst LeavesBytes (sym (ap (λ xs. read ++ xs) follow ∙ append-nil read)) n.0, n.1);
+            took = λ other rest follow. alone_took own read line old new all rest follow;
             stopped = λ e. absurd (cc);
           },
     )
 
 -- how the command ends with an answer
 pub turns_end : (ended : Ended) (own : Tributary) (first was now : InView) (t : ℕ) (tap : TapView) (old new : Option (List ℕ)) → (h : TurnsSoFar own first was t tap old new)
-    → t ≤ 16384 → ((given : List ℕ) → MayBe false tap.line.reader.ending h.taken given → (has_ended (line_state 8 (mfas_of given) t) ≡ true) ⊎ (t ≡ 16384))
+    → t ≤ 16384 → ((available : List ℕ) → MayBe false tap.line.reader.ending h.read available → (has_ended (line_state 8 (mfas_of available) t) ≡ true) ⊎ (t ≡ 16384))
     → tap.line.pieces ≡ 0 → AnswerRun tap.line was now ended → PullEnded own first now old new ended
 turns_end Done own first was now t tap old new h few last none a = by_end a.ends.2
   where
-    all : AllTurns own h.taken tap.line old new
+    all : AllTurns own h.read tap.line old new
     all = all_turns own first was t tap old new h few last none
 
-    gave : Gave first h.taken now
-    gave = subst (λ xs. Gave first xs now) (ap (λ xs. h.taken ++ xs) a.ends.1 ∙ append-nil h.taken) (gave_twice first was now h.taken a.came h.stands.line.gave a.gave)
+    gave : Gave first h.read now
+    gave = subst (λ xs. Gave first xs now) (ap (λ xs. h.read ++ xs) a.ends.1 ∙ append-nil h.read) (gave_twice first was now h.read a.further h.stands.line.gave a.gave)
 
     by_end : ((tap.line.reader.ending ≡ Seen) × (tap.line.reader.rest ≡ 0) × (now ≡ was)) ⊎ ((tap.line.reader.ending ≢ Seen) × HasEnded now.left now.ended) → PullEnded own first now old new Done
     by_end (inl s) =
         let closed : tap.line.reader.ending ≢ Open = λ e. let f : Seen ≡ Open = sym s.0 ∙ e in absurd (cc) in
-        (seen_ends own first now h.taken tap.line old new all gave a.ends.0 (λ live. subst (λ (v : InView). HasEnded v.left v.ended) (sym s.2) (h.stands.line.over closed (ap (λ (v : InView). v.state) (sym s.2) ∙ live))) s.0).0 s.1
+        (seen_ends own first now h.read tap.line old new all gave a.ends.0 (λ live. subst (λ (v : InView). HasEnded v.left v.ended) (sym s.2) (h.stands.line.over closed (ap (λ (v : InView). v.state) (sym s.2) ∙ live))) s.0).0 s.1
     by_end (inr u) =
-        let alive = was_alive was now a.came a.gave a.ends.0 in
+        let alive = was_alive was now a.further a.gave a.ends.0 in
         let open_now = open_is tap.line.reader.ending u.0 (λ died. alive (h.stands.line.ending.died died)) in
-        let n = whole_frames_only (length h.taken) (frames_there h.taken) ((all.took h.taken (itself tap.line.reader.ending h.taken)).still open_now).0 in
+        let n = whole_frames_only (length h.read) (frames_there h.read) ((all.took h.read (itself tap.line.reader.ending h.read)).still open_now).0 in
         record {
-          taken = h.taken;
+          read = h.read;
           gave = gave;
           more = false;
           over = λ _ live. u.1;
           died = λ dead. absurd (a.ends.0 dead);
-          report = λ rest follow. all.report (h.taken ++ rest) (alone tap.line.reader.ending h.taken rest follow);
+          report = λ rest follow. all.report (h.read ++ rest) (alone tap.line.reader.ending h.read rest follow);
           ends = (a.ends.0, refl, n.0, n.1);
-          took = λ other rest follow. alone_took own h.taken tap.line old new all rest follow;
+          took = λ other rest follow. alone_took own h.read tap.line old new all rest follow;
           stopped = λ e. absurd (cc);
         }
 turns_end Unfinished own first was now t tap old new h few last none a = by_end a.ends.1
   where
-    all : AllTurns own h.taken tap.line old new
+    all : AllTurns own h.read tap.line old new
     all = all_turns own first was t tap old new h few last none
 
-    by_end : ((tap.line.reader.ending ≡ Seen) × (0 < tap.line.reader.rest) × (a.came ≡ []) × (now ≡ was)) ⊎ ((tap.line.reader.ending ≢ Seen) × (length a.came ≡ 1)) → PullEnded own first now old new Unfinished
+    by_end : ((tap.line.reader.ending ≡ Seen) × (0 < tap.line.reader.rest) × (a.further ≡ []) × (now ≡ was)) ⊎ ((tap.line.reader.ending ≢ Seen) × (length a.further ≡ 1)) → PullEnded own first now old new Unfinished
     by_end (inl s) =
         let closed : tap.line.reader.ending ≢ Open = λ e. let f : Seen ≡ Open = sym s.0 ∙ e in absurd (cc) in
-        let gave = subst (λ xs. Gave first xs now) (ap (λ xs. h.taken ++ xs) s.2 ∙ append-nil h.taken) (gave_twice first was now h.taken a.came h.stands.line.gave a.gave) in
-        (seen_ends own first now h.taken tap.line old new all gave a.ends.0 (λ live. subst (λ (v : InView). HasEnded v.left v.ended) (sym s.3) (h.stands.line.over closed (ap (λ (v : InView). v.state) (sym s.3) ∙ live))) s.0).1 s.1
+        let gave = subst (λ xs. Gave first xs now) (ap (λ xs. h.read ++ xs) s.2 ∙ append-nil h.read) (gave_twice first was now h.read a.further h.stands.line.gave a.gave) in
+        (seen_ends own first now h.read tap.line old new all gave a.ends.0 (λ live. subst (λ (v : InView). HasEnded v.left v.ended) (sym s.3) (h.stands.line.over closed (ap (λ (v : InView). v.state) (sym s.3) ∙ live))) s.0).1 s.1
     by_end (inr u) =
-        let alive = was_alive was now a.came a.gave a.ends.0 in
+        let alive = was_alive was now a.further a.gave a.ends.0 in
         let open_now = open_is tap.line.reader.ending u.0 (λ died. alive (h.stands.line.ending.died died)) in
-        let may : (rest : List ℕ) → MayBe false tap.line.reader.ending h.taken ((h.taken ++ a.came) ++ rest)
-        = λ rest. record { rest = a.came ++ rest; over = λ closed. absurd (closed open_now); parts = append_assoc h.taken a.came rest } in
-        let wanted : (rest : List ℕ) → (length h.taken ≡ 16320 * frames_there ((h.taken ++ a.came) ++ rest))
-        × (frames_there ((h.taken ++ a.came) ++ rest) ≡ frames_wanted ((h.taken ++ a.came) ++ rest))
-        = λ rest. (all.took ((h.taken ++ a.came) ++ rest) (may rest)).still open_now in
-        let size : length (h.taken ++ a.came) ≡ length h.taken + 1 = length-append h.taken a.came ∙ ap (λ n. length h.taken + n) u.1 in
+        let may : (rest : List ℕ) → MayBe false tap.line.reader.ending h.read ((h.read ++ a.further) ++ rest)
+        = λ rest. record { rest = a.further ++ rest; over = λ closed. absurd (closed open_now); parts = append_assoc h.read a.further rest } in
+        let wanted : (rest : List ℕ) → (length h.read ≡ 16320 * frames_there ((h.read ++ a.further) ++ rest))
+        × (frames_there ((h.read ++ a.further) ++ rest) ≡ frames_wanted ((h.read ++ a.further) ++ rest))
+        = λ rest. (all.took ((h.read ++ a.further) ++ rest) (may rest)).still open_now in
+        let size : length (h.read ++ a.further) ≡ length h.read + 1 = length-append h.read a.further ∙ ap (λ n. length h.read + n) u.1 in
         record {
-          taken = h.taken ++ a.came;
-          gave = gave_twice first was now h.taken a.came h.stands.line.gave a.gave;
+          read = h.read ++ a.further;
+          gave = gave_twice first was now h.read a.further h.stands.line.gave a.gave;
           more = true;
           over = λ e. absurd (cc);
           died = λ dead. absurd (a.ends.0 dead);
-          report = λ rest follow. all.report ((h.taken ++ a.came) ++ rest) (may rest);
+          report = λ rest follow. all.report ((h.read ++ a.further) ++ rest) (may rest);
           ends = (
             a.ends.0,
-            λ rest follow. omega (arith, (wanted rest).0, size, length-append (h.taken ++ a.came) rest),
-            one_byte (length h.taken) (length (h.taken ++ a.came)) (frames_there ((h.taken ++ a.came) ++ [])) (wanted []).0 size,
+            λ rest follow. omega (arith, (wanted rest).0, size, length-append (h.read ++ a.further) rest),
+            one_byte (length h.read) (length (h.read ++ a.further)) (frames_there ((h.read ++ a.further) ++ [])) (wanted []).0 size,
           );
           took = λ other rest follow.
-              let all : length (h.taken ++ a.came) ≤ length ((h.taken ++ a.came) ++ rest) = omega (arith, length-append (h.taken ++ a.came) rest) in
-              more_least (length h.taken) (length (h.taken ++ a.came)) (length ((h.taken ++ a.came) ++ rest)) (frames_wanted ((h.taken ++ a.came) ++ rest))
+              let all : length (h.read ++ a.further) ≤ length ((h.read ++ a.further) ++ rest) = omega (arith, length-append (h.read ++ a.further) rest) in
+              more_least (length h.read) (length (h.read ++ a.further)) (length ((h.read ++ a.further) ++ rest)) (frames_wanted ((h.read ++ a.further) ++ rest))
               ((wanted rest).0 ∙ ap (λ n. 16320 * n) (wanted rest).1) size all;
           stopped = λ e. absurd (cc);
         }
 turns_end Cut own first was now t tap old new h few last none a =
     let all = all_turns own first was t tap old new h few last none in
     record {
-      taken = h.taken;
-      gave = subst (λ xs. Gave first xs now) (ap (λ xs. h.taken ++ xs) a.ends.1 ∙ append-nil h.taken) (gave_twice first was now h.taken a.came h.stands.line.gave a.gave);
+      read = h.read;
+      gave = subst (λ xs. Gave first xs now) (ap (λ xs. h.read ++ xs) a.ends.1 ∙ append-nil h.read) (gave_twice first was now h.read a.further h.stands.line.gave a.gave);
       more = false;
       over = λ _ live. let e : Dead ≡ Live = sym a.ends.0 ∙ live in absurd (cc);
       died = λ dead. unended a.ends.2 dead;
-      report = λ rest follow. all.report (h.taken ++ rest) (alone tap.line.reader.ending h.taken rest follow);
+      report = λ rest follow. all.report (h.read ++ rest) (alone tap.line.reader.ending h.read rest follow);
       ends = a.ends.0;
-      took = λ other rest follow. alone_took own h.taken tap.line old new all rest follow;
+      took = λ other rest follow. alone_took own h.read tap.line old new all rest follow;
       stopped = λ e. absurd (cc);
     }
   where
     unended : ((now ≡ was) ⊎ ((tap.line.reader.ending ≢ Seen) × (now.ended ≡ was.ended))) → DiedUnended first now
-    unended (inl same) dead = ap (λ (v : InView). v.ended) same ∙ died_unended plain_otu2 first was h.taken t tap.line h.stands.line (sym (ap (λ (v : InView). v.state) same) ∙ dead)
+    unended (inl same) dead = ap (λ (v : InView). v.ended) same ∙ died_unended plain_otu2 first was h.read t tap.line h.stands.line (sym (ap (λ (v : InView). v.state) same) ∙ dead)
     unended (inr asked) dead = asked.1 ∙ h.stands.line.unended asked.0
 turns_end ReportFault own first was now t tap old new h few last none a = absurd a.ends
 turns_end Memory own first was now t tap old new h few last none a = absurd a.ends

@@ -25,48 +25,48 @@ none_beyond Empty left answered rest ended live other = other (λ e. cc)
 none_beyond Dead left answered rest ended live other = other (λ e. cc)
 
 -- what Given has beyond the bytes taken may follow them
-beyond_follows : (more : Bool) (taken given : List ℕ) (s : State) (left : Option (List ℕ)) (answered : Bool) → (more ≡ false → s ≡ Live → HasEnded left answered)
-    → (b : Beyond taken given s left) → MayFollow more b.rest
-beyond_follows true taken given s left answered over b = tt
-beyond_follows false taken given s left answered over b = none_beyond s left answered b.rest (over refl) b.live b.other
+beyond_follows : (more : Bool) (read available : List ℕ) (s : State) (left : Option (List ℕ)) (answered : Bool) → (more ≡ false → s ≡ Live → HasEnded left answered)
+    → (b : Beyond read available s left) → MayFollow more b.rest
+beyond_follows true read available s left answered over b = tt
+beyond_follows false read available s left answered over b = none_beyond s left answered b.rest (over refl) b.live b.other
 
 -- Given is what was taken, and bytes that may follow it
-record Followed (more : Bool) (taken given : List ℕ) : Type 0 where
+record Followed (more : Bool) (read available : List ℕ) : Type 0 where
   pub rest : List ℕ
-  pub parts : given ≡ taken ++ rest
+  pub parts : available ≡ read ++ rest
   pub follows : MayFollow more rest
 
 -- nothing stands behind the bytes taken
-nothing_more : (more : Bool) (taken rest : List ℕ) → more ≡ false → MayFollow more rest → taken ++ rest ≡ taken
-nothing_more more taken rest over follow =
+nothing_more : (more : Bool) (read rest : List ℕ) → more ≡ false → MayFollow more rest → read ++ rest ≡ read
+nothing_more more read rest over follow =
     let none : rest ≡ [] = subst (λ m. MayFollow m rest) over follow in
-    ap (λ xs. taken ++ xs) none ∙ append-nil taken
+    ap (λ xs. read ++ xs) none ∙ append-nil read
 
 -- what Given has of a run of `pull`
-followed : (own : Tributary) (old new : Device) (answer : Status) (given : List ℕ) (h : PullRan own old new answer)
-    → HadToGive (line_zero old) (line_zero new) given → Followed h.more h.taken given
-followed own old new answer given h is =
-    let b = given_of_gave (line_zero old) (line_zero new) h.taken given h.gave is in
-    record { rest = b.rest; parts = b.parts; follows = beyond_follows h.more h.taken given (line_zero new).state (line_zero new).left (line_zero new).ended h.over b }
+followed : (own : Tributary) (old new : Device) (answer : Status) (available : List ℕ) (h : PullRan own old new answer)
+    → HadToGive (line_zero old) (line_zero new) available → Followed h.more h.read available
+followed own old new answer available h is =
+    let b = given_of_gave (line_zero old) (line_zero new) h.read available h.gave is in
+    record { rest = b.rest; parts = b.parts; follows = beyond_follows h.more h.read available (line_zero new).state (line_zero new).left (line_zero new).ended h.over b }
 
 -- ---- what `pull` answers for
 
 pub pull_ran : (ended : Ended) (own : Tributary) (old new : Device) → PullEnded own (line_zero old) (line_zero new) old.report.got new.report.got ended → PullRan own old new (line_status ended)
 pull_ran Done own old new h = record {
-  taken = h.taken;
+  read = h.read;
   gave = h.gave;
   more = h.more;
   over = h.over;
   died = h.died;
   wrote = h.report;
   cut = λ _. (λ e. absurd (cc), λ dead. absurd (h.ends.0 dead));
-  unfinished = λ _ rest follow. (λ e. absurd (cc), λ x. absurd (h.ends.2 (subst LeavesBytes (nothing_more h.more h.taken rest h.ends.1 follow) x.1)));
-  counted = λ _. (λ e. absurd (cc), λ x. let none : length h.taken % 16320 ≡ 0 = h.ends.3 in let some : 0 < length h.taken % 16320 = x.1 in absurd (omega (arith, none, some)));
+  unfinished = λ _ rest follow. (λ e. absurd (cc), λ x. absurd (h.ends.2 (subst LeavesBytes (nothing_more h.more h.read rest h.ends.1 follow) x.1)));
+  counted = λ _. (λ e. absurd (cc), λ x. let none : length h.read % 16320 ≡ 0 = h.ends.3 in let some : 0 < length h.read % 16320 = x.1 in absurd (omega (arith, none, some)));
   took = λ _. h.took (λ e. cc);
   stopped = λ e. absurd (cc);
 }
 pull_ran Unfinished own old new h = record {
-  taken = h.taken;
+  read = h.read;
   gave = h.gave;
   more = h.more;
   over = h.over;
@@ -79,7 +79,7 @@ pull_ran Unfinished own old new h = record {
   stopped = λ e. absurd (cc);
 }
 pull_ran Cut own old new h = record {
-  taken = h.taken;
+  read = h.read;
   gave = h.gave;
   more = h.more;
   over = h.over;
@@ -92,7 +92,7 @@ pull_ran Cut own old new h = record {
   stopped = λ e. absurd (cc);
 }
 pull_ran ReportFault own old new h = record {
-  taken = h.taken;
+  read = h.read;
   gave = h.gave;
   more = h.more;
   over = h.over;
@@ -109,22 +109,22 @@ pull_ran Memory own old new h = absurd h.ends
 -- ---- by Given
 
 -- what is written
-pub pull_reports : (own : Tributary) (old new : Device) (answer : Status) (given : List ℕ) → PullRan own old new answer
-    → HadToGive (line_zero old) (line_zero new) given → Reports answer old.report.got new.report.got (pull_report own given)
-pull_reports own old new answer given h is =
-    let f = followed own old new answer given h is in
+pub pull_reports : (own : Tributary) (old new : Device) (answer : Status) (available : List ℕ) → PullRan own old new answer
+    → HadToGive (line_zero old) (line_zero new) available → Reports answer old.report.got new.report.got (pull_report own available)
+pull_reports own old new answer available h is =
+    let f = followed own old new answer available h is in
     subst (λ xs. Reports answer old.report.got new.report.got (pull_report own xs)) (sym f.parts) (h.wrote f.rest f.follows)
 
 -- Unfinished comes just where the line is not dead and bytes stand after the frames that are used
-pub pull_unfinished : (own : Tributary) (old new : Device) (answer : Status) (given : List ℕ) → PullRan own old new answer → answer ≢ status.ReportFault
-    → HadToGive (line_zero old) (line_zero new) given → (answer ≡ status.Unfinished) ↔ (((line_zero new).state ≢ Dead) × LeavesBytes given)
-pull_unfinished own old new answer given h other is =
-    let f = followed own old new answer given h is in
+pub pull_unfinished : (own : Tributary) (old new : Device) (answer : Status) (available : List ℕ) → PullRan own old new answer → answer ≢ status.ReportFault
+    → HadToGive (line_zero old) (line_zero new) available → (answer ≡ status.Unfinished) ↔ (((line_zero new).state ≢ Dead) × LeavesBytes available)
+pull_unfinished own old new answer available h other is =
+    let f = followed own old new answer available h is in
     subst (λ xs. (answer ≡ status.Unfinished) ↔ (((line_zero new).state ≢ Dead) × LeavesBytes xs)) (sym f.parts) (h.unfinished other f.rest f.follows)
 
 -- how many bytes were taken, by the place's number
-pub taken_by_number : (first now : InView) (taken : List ℕ) → Gave first taken now → now.number < 2 ^ 64 - 1 → now.number - first.number ≡ length taken
-taken_by_number first now taken gave below = let n = taken_counted first now taken gave below in omega (arith, n)
+pub taken_by_number : (first now : InView) (read : List ℕ) → Gave first read now → now.number < 2 ^ 64 - 1 → now.number - first.number ≡ length read
+taken_by_number first now read gave below = let n = taken_counted first now read gave below in omega (arith, n)
 
 -- the same, by the place's number of bytes, also where the line does not tell them
 pub pull_counted : (own : Tributary) (old new : Device) (answer : Status) → PullRan own old new answer → answer ≢ status.ReportFault
@@ -132,27 +132,27 @@ pub pull_counted : (own : Tributary) (old new : Device) (answer : Status) → Pu
     → (answer ≡ status.Unfinished) ↔ (((line_zero new).state ≢ Dead) × (0 < ((line_zero new).number - (line_zero old).number) % 16320))
 pull_counted own old new answer h other below =
     subst (λ n. (answer ≡ status.Unfinished) ↔ (((line_zero new).state ≢ Dead) × (0 < n % 16320)))
-    (sym (taken_by_number (line_zero old) (line_zero new) h.taken h.gave below))
+    (sym (taken_by_number (line_zero old) (line_zero new) h.read h.gave below))
     (h.counted other)
 
 -- how many bytes were taken, by Given
-pub pull_took : (own : Tributary) (old new : Device) (answer : Status) (given : List ℕ) → PullRan own old new answer → answer ≢ status.ReportFault
-    → HadToGive (line_zero old) (line_zero new) given → (line_zero new).number < 2 ^ 64 - 1 → (line_zero new).number - (line_zero old).number ≡ bytes_taken given
-pull_took own old new answer given h other is below =
-    let f = followed own old new answer given h is in
-    taken_by_number (line_zero old) (line_zero new) h.taken h.gave below ∙ h.took other f.rest f.follows ∙ ap (λ xs. bytes_taken xs) (sym f.parts)
+pub pull_took : (own : Tributary) (old new : Device) (answer : Status) (available : List ℕ) → PullRan own old new answer → answer ≢ status.ReportFault
+    → HadToGive (line_zero old) (line_zero new) available → (line_zero new).number < 2 ^ 64 - 1 → (line_zero new).number - (line_zero old).number ≡ bytes_taken available
+pull_took own old new answer available h other is below =
+    let f = followed own old new answer available h is in
+    taken_by_number (line_zero old) (line_zero new) h.read h.gave below ∙ h.took other f.rest f.follows ∙ ap (λ xs. bytes_taken xs) (sym f.parts)
 
 -- how it stopped, by Given
-pub pull_stopped : (own : Tributary) (old new : Device) (given : List ℕ) → PullRan own old new status.ReportFault → HadToGive (line_zero old) (line_zero new) given
+pub pull_stopped : (own : Tributary) (old new : Device) (available : List ℕ) → PullRan own old new status.ReportFault → HadToGive (line_zero old) (line_zero new) available
     → (line_zero new).number < 2 ^ 64 - 1
-    → (t : ℕ) × StoppedInTurn own given ((line_zero new).number - (line_zero old).number) t old.report.got new.report.got
-pull_stopped own old new given h is below =
-    let f = followed own old new status.ReportFault given h is in
+    → (t : ℕ) × StoppedInTurn own available ((line_zero new).number - (line_zero old).number) t old.report.got new.report.got
+pull_stopped own old new available h is below =
+    let f = followed own old new status.ReportFault available h is in
     let k = h.stopped refl in
-    let n = taken_by_number (line_zero old) (line_zero new) h.taken h.gave below in (
+    let n = taken_by_number (line_zero old) (line_zero new) h.read h.gave below in (
       k.0,
-      subst (λ count. StoppedInTurn own given count k.0 old.report.got new.report.got) (sym n)
-          (subst (λ xs. StoppedInTurn own xs (length h.taken) k.0 old.report.got new.report.got) (sym f.parts) (k.1 f.rest f.follows)),
+      subst (λ count. StoppedInTurn own available count k.0 old.report.got new.report.got) (sym n)
+          (subst (λ xs. StoppedInTurn own xs (length h.read) k.0 old.report.got new.report.got) (sym f.parts) (k.1 f.rest f.follows)),
     )
 
 -- ---- without faults

@@ -92,17 +92,17 @@ turn_count ms n few going last = ap length (turns_all ms n few going last) ∙ l
 -- ---- what is written
 
 -- what is written begins with what the sink emits in the first turns
-pub written_first : (own : Tributary) (given : List ℕ) (n : ℕ) → n ≤ 16384 → ((s : ℕ) → s < n → has_ended (line_state 8 (mfas_of given) s) ≡ false)
-    → (rest : List ℕ) × (pull_report own given ≡ flat_map (emitted_at own given) (range_with_len 0 n) ++ rest)
+pub written_first : (own : Tributary) (available : List ℕ) (n : ℕ) → n ≤ 16384 → ((s : ℕ) → s < n → has_ended (line_state 8 (mfas_of available) s) ≡ false)
+    → (rest : List ℕ) × (pull_report own available ≡ flat_map (emitted_at own available) (range_with_len 0 n) ++ rest)
 unfolding pull_report
-written_first own given n few going =
-    let turns = turns_first (mfas_of given) n few going in (
-      flat_map (emitted_at own given) turns.0,
-      ap (flat_map (emitted_at own given)) turns.1 ∙ flat_map-append (emitted_at own given) (range_with_len 0 n) turns.0,
+written_first own available n few going =
+    let turns = turns_first (mfas_of available) n few going in (
+      flat_map (emitted_at own available) turns.0,
+      ap (flat_map (emitted_at own available)) turns.1 ∙ flat_map-append (emitted_at own available) (range_with_len 0 n) turns.0,
     )
 
 -- and is that of all turns, where there are no more
-pub written_all : (own : Tributary) (given : List ℕ) (n : ℕ) → n ≤ 16384 → ((s : ℕ) → s < n → has_ended (line_state 8 (mfas_of given) s) ≡ false)
-    → (has_ended (line_state 8 (mfas_of given) n) ≡ true) ⊎ (n ≡ 16384) → pull_report own given ≡ flat_map (emitted_at own given) (range_with_len 0 n)
+pub written_all : (own : Tributary) (available : List ℕ) (n : ℕ) → n ≤ 16384 → ((s : ℕ) → s < n → has_ended (line_state 8 (mfas_of available) s) ≡ false)
+    → (has_ended (line_state 8 (mfas_of available) n) ≡ true) ⊎ (n ≡ 16384) → pull_report own available ≡ flat_map (emitted_at own available) (range_with_len 0 n)
 unfolding pull_report
-written_all own given n few going last = ap (flat_map (emitted_at own given)) (turns_all (mfas_of given) n few going last)
+written_all own available n few going last = ap (flat_map (emitted_at own available)) (turns_all (mfas_of available) n few going last)

@@ -17,16 +17,16 @@ use Rattle.command_base.specs.Gains.{GainsPart}
 use Rattle.command_base.specs.Beyond.{ByteRun}
 use Rattle.otn_ports.specs.declared.ended.Ended.{Ended}
 use Rattle.otn_ports.specs.declared.ended.Ended.TheVariants.{Done, Unfinished, Cut, ReportFault, Memory}
-use Rattle.line_commands.proofs.LineFrames.{last_frame, slot_report-at, slot_report-whole, until-append, until-came, until-more, until-none, used-at}
+use Rattle.line_commands.proofs.LineFrames.{last_frame, slot_report-at, slot_report-whole, until-append, until-further, until-more, until-none, used-at}
 
 -- after i whole frames
 pub record SoFar (slot i : ℕ) (first now : InView) (old new : Option (List ℕ)) : Type 0 where
-  pub taken : List ℕ
-  pub gave : Gave first taken now
-  pub size : length taken ≡ i * 16320
+  pub read : List ℕ
+  pub gave : Gave first read now
+  pub size : length read ≡ i * 16320
   pub state : now.state ≡ first.state
   pub unended : now.ended ≡ first.ended
-  pub report : new ≡ after old (slot_bytes_until slot taken i)
+  pub report : new ≡ after old (slot_bytes_until slot read i)
 
 pub after-none : (got : Option (List ℕ)) → got ≡ after got []
 after-none None = refl
@@ -34,7 +34,7 @@ after-none (Some got) = ap Some (sym (append-nil got))
 
 pub so_far_none : (slot : ℕ) (first : InView) (old : Option (List ℕ)) → SoFar slot 0 first first old old
 so_far_none slot first old = record {
-  taken = [];
+  read = [];
   gave = gave_none first;
   size = refl;
   state = refl;
@@ -45,21 +45,21 @@ so_far_none slot first old = record {
 pub so_far_more : (slot i : ℕ) (first mid now : InView) (old gained new : Option (List ℕ)) → SoFar slot i first mid old gained
     → SlotStep slot mid now gained new None → SoFar slot (i + 1) first now old new
 so_far_more slot i first mid now old gained new h step = record {
-  taken = h.taken ++ step.taken;
-  gave = gave_twice first mid now h.taken step.taken h.gave step.gave;
-  size = omega (arith, length-append h.taken step.taken, h.size, step.ends.0);
+  read = h.read ++ step.read;
+  gave = gave_twice first mid now h.read step.read h.gave step.gave;
+  size = omega (arith, length-append h.read step.read, h.size, step.ends.0);
   state = step.ends.1 ∙ h.state;
   unended = step.ends.3 ∙ h.unended;
-  report = step.ends.2 ∙ ap (λ r. after r (slot_bytes slot step.taken)) h.report ∙ after-after old (slot_bytes_until slot h.taken i) (slot_bytes slot step.taken)
-      ∙ ap (after old) (sym (until-came slot h.taken step.taken i h.size step.ends.0));
+  report = step.ends.2 ∙ ap (λ r. after r (slot_bytes slot step.read)) h.report ∙ after-after old (slot_bytes_until slot h.read i) (slot_bytes slot step.read)
+      ∙ ap (after old) (sym (until-further slot h.read step.read i h.size step.ends.0));
 }
 
 -- what a part of the last frame's bytes is of the whole report
 pub part_after : (old gained new : Option (List ℕ)) (before bytes : List ℕ) → gained ≡ after old before → GainsPart gained new bytes → GainsPart old new (before ++ bytes)
 part_after old gained new before bytes e h = record {
-  went = length before + h.went;
+  written = length before + h.written;
   part = omega (arith, length-append before bytes, h.part);
-  gained = h.gained ∙ ap (λ r. after r (take h.went bytes)) e ∙ after-after old before (take h.went bytes) ∙ ap (after old) (sym (take-append-add before bytes h.went));
+  gained = h.gained ∙ ap (λ r. after r (take h.written bytes)) e ∙ after-after old before (take h.written bytes) ∙ ap (after old) (sym (take-append-add before bytes h.written));
 }
 
 -- a write that failed, of the frame that came behind so many
@@ -75,30 +75,30 @@ stopped_in slot i bytes frame old gained new size wide before part =
     }
 
 -- it is a part of the whole report
-pub part_of_report : (slot : ℕ) (taken : List ℕ) (old new : Option (List ℕ)) → length taken ≤ 131072 * 16320 + 1 → StoppedInFrame slot taken (length taken) old new
-    → GainsPart old new (slot_report slot taken)
-part_of_report slot taken old new few h =
-    let whole = slot_report-whole slot taken (h.f + 1) (omega (arith, h.last)) (omega (arith, h.last, few)) ∙ until-more slot taken h.f in
+pub part_of_report : (slot : ℕ) (read : List ℕ) (old new : Option (List ℕ)) → length read ≤ 131072 * 16320 + 1 → StoppedInFrame slot read (length read) old new
+    → GainsPart old new (slot_report slot read)
+part_of_report slot read old new few h =
+    let whole = slot_report-whole slot read (h.f + 1) (omega (arith, h.last)) (omega (arith, h.last, few)) ∙ until-more slot read h.f in
     subst (GainsPart old new) (sym whole)
-    (part_after old (after old (slot_bytes_until slot taken h.f)) new (slot_bytes_until slot taken h.f) (slot_bytes slot (frame_at taken h.f)) refl h.gained)
+    (part_after old (after old (slot_bytes_until slot read h.f)) new (slot_bytes_until slot read h.f) (slot_bytes slot (frame_at read h.f)) refl h.gained)
 
 -- the taken bytes end with a part of a frame
 record EndsIn (slot i : ℕ) (first mid now : InView) (old new : Option (List ℕ)) (more : List ℕ) : Type 0 where
-  pub taken : List ℕ
-  pub gave : Gave first (taken ++ more) now
-  pub size : length (taken ++ more) ≡ i * 16320 + length more
-  pub report : new ≡ after old (slot_report slot (taken ++ more))
-  pub used : whole_frames_used (length (taken ++ more)) ≡ i
+  pub read : List ℕ
+  pub gave : Gave first (read ++ more) now
+  pub size : length (read ++ more) ≡ i * 16320 + length more
+  pub report : new ≡ after old (slot_report slot (read ++ more))
+  pub used : whole_frames_used (length (read ++ more)) ≡ i
 
 ended : (slot i : ℕ) (first mid now : InView) (old gained new : Option (List ℕ)) (more : List ℕ) → i ≤ 131072 → SoFar slot i first mid old gained
     → Gave mid more now → length more < 16320 → new ≡ gained → EndsIn slot i first mid now old new more
 ended slot i first mid now old gained new more few h gave part same =
-    let size : length (h.taken ++ more) ≡ i * 16320 + length more = length-append h.taken more ∙ ap (λ n. n + length more) h.size in
+    let size : length (h.read ++ more) ≡ i * 16320 + length more = length-append h.read more ∙ ap (λ n. n + length more) h.size in
     record {
-      taken = h.taken;
-      gave = gave_twice first mid now h.taken more h.gave gave;
+      read = h.read;
+      gave = gave_twice first mid now h.read more h.gave gave;
       size = size;
-      report = same ∙ h.report ∙ ap (after old) (sym (slot_report-at slot h.taken more i h.size part few));
+      report = same ∙ h.report ∙ ap (after old) (sym (slot_report-at slot h.read more i h.size part few));
       used = ap whole_frames_used size ∙ used-at i (length more) part few;
     }
 
@@ -106,34 +106,34 @@ ended slot i first mid now old gained new more few h gave part same =
 pub ends_with : (ended : Ended) (slot i : ℕ) (first mid now : InView) (old gained new : Option (List ℕ)) → first.state ≢ Dead → i < 131072
     → SoFar slot i first mid old gained → SlotStep slot mid now gained new (Some ended) → SlotEnded slot first now old new ended
 ends_with Done slot i first mid now old gained new alive few h step =
-    let none : length step.taken ≡ 0 = ap length step.ends.0 in
-    let e = ended slot i first mid now old gained new step.taken (omega arith) h step.gave (omega arith) step.ends.3 in
+    let none : length step.read ≡ 0 = ap length step.ends.0 in
+    let e = ended slot i first mid now old gained new step.read (omega arith) h step.gave (omega arith) step.ends.3 in
     record {
-      taken = e.taken ++ step.taken;
+      read = e.read ++ step.read;
       gave = e.gave;
       died = λ dead. absurd (alive (sym h.state ∙ sym step.ends.1 ∙ dead));
       ends = (e.report, λ dead. alive (sym h.state ∙ sym step.ends.1 ∙ dead), step.ends.2, omega (arith, e.size, e.used, none), omega (arith, e.size, none, few));
     }
 ends_with Unfinished slot i first mid now old gained new alive few h step =
     let some = step.ends.0 in
-    let e = ended slot i first mid now old gained new step.taken (omega arith) h step.gave step.ends.1 step.ends.4 in
+    let e = ended slot i first mid now old gained new step.read (omega arith) h step.gave step.ends.1 step.ends.4 in
     record {
-      taken = e.taken ++ step.taken;
+      read = e.read ++ step.read;
       gave = e.gave;
       died = λ dead. absurd (alive (sym h.state ∙ sym step.ends.2 ∙ dead));
       ends = (e.report, λ dead. alive (sym h.state ∙ sym step.ends.2 ∙ dead), omega (arith, e.size, e.used, some), inl step.ends.3, omega (arith, e.size, step.ends.1, few));
     }
 ends_with Cut slot i first mid now old gained new alive few h step =
-    let e = ended slot i first mid now old gained new step.taken (omega arith) h step.gave step.ends.0 step.ends.2 in
-    record { taken = e.taken ++ step.taken; gave = e.gave; died = λ _. step.ends.3 ∙ h.unended; ends = (e.report, step.ends.1, omega (arith, e.size, step.ends.0, few)) }
+    let e = ended slot i first mid now old gained new step.read (omega arith) h step.gave step.ends.0 step.ends.2 in
+    record { read = e.read ++ step.read; gave = e.gave; died = λ _. step.ends.3 ∙ h.unended; ends = (e.report, step.ends.1, omega (arith, e.size, step.ends.0, few)) }
 ends_with ReportFault slot i first mid now old gained new alive few h step = record {
-  taken = h.taken ++ step.taken;
-  gave = gave_twice first mid now h.taken step.taken h.gave step.gave;
+  read = h.read ++ step.read;
+  gave = gave_twice first mid now h.read step.read h.gave step.gave;
   died = λ dead. absurd (alive (sym h.state ∙ sym step.ends.1 ∙ dead));
   ends = (
-    stopped_in slot i h.taken step.taken old gained new h.size step.ends.0 h.report step.ends.2,
+    stopped_in slot i h.read step.read old gained new h.size step.ends.0 h.report step.ends.2,
     step.ends.1 ∙ h.state,
-    omega (arith, length-append h.taken step.taken, h.size, step.ends.0, few),
+    omega (arith, length-append h.read step.read, h.size, step.ends.0, few),
   );
 }
 ends_with Memory slot i first mid now old gained new alive few h step = absurd step.ends
@@ -142,35 +142,35 @@ ends_with Memory slot i first mid now old gained new alive few h step = absurd s
 pub ends_after : (ended : Ended) (slot : ℕ) (first mid now : InView) (old new : Option (List ℕ)) → first.state ≢ Dead
     → SoFar slot 131072 first mid old new → ByteRun mid now ended → SlotEnded slot first now old new ended
 ends_after Done slot first mid now old new alive h byte =
-    let none : length byte.taken ≡ 0 = ap length byte.ends.0 in
-    let e = ended slot 131072 first mid now old new new byte.taken (lit≤ tt) h byte.gave (omega arith) refl in
+    let none : length byte.read ≡ 0 = ap length byte.ends.0 in
+    let e = ended slot 131072 first mid now old new new byte.read (lit≤ tt) h byte.gave (omega arith) refl in
     record {
-      taken = e.taken ++ byte.taken;
+      read = e.read ++ byte.read;
       gave = e.gave;
       died = λ dead. absurd (alive (sym h.state ∙ sym byte.ends.1 ∙ dead));
       ends = (e.report, λ dead. alive (sym h.state ∙ sym byte.ends.1 ∙ dead), byte.ends.2, omega (arith, e.size, e.used, none), omega (arith, e.size, none));
     }
 ends_after Unfinished slot first mid now old new alive h byte =
     let one = byte.ends.0 in
-    let e = ended slot 131072 first mid now old new new byte.taken (lit≤ tt) h byte.gave (omega arith) refl in
-    let size : length (e.taken ++ byte.taken) ≡ 131072 * 16320 + 1 = e.size ∙ ap (λ n. 131072 * 16320 + n) one in
+    let e = ended slot 131072 first mid now old new new byte.read (lit≤ tt) h byte.gave (omega arith) refl in
+    let size : length (e.read ++ byte.read) ≡ 131072 * 16320 + 1 = e.size ∙ ap (λ n. 131072 * 16320 + n) one in
     record {
-      taken = e.taken ++ byte.taken;
+      read = e.read ++ byte.read;
       gave = e.gave;
       died = λ dead. absurd (alive (sym h.state ∙ sym byte.ends.1 ∙ dead));
       ends = (e.report, λ dead. alive (sym h.state ∙ sym byte.ends.1 ∙ dead), omega (arith, e.size, e.used, one), inr size, omega (arith, size));
     }
 ends_after Cut slot first mid now old new alive h byte =
-    let none : length byte.taken ≡ 0 = ap length byte.ends.0 in
-    let e = ended slot 131072 first mid now old new new byte.taken (lit≤ tt) h byte.gave (omega arith) refl in
-    record { taken = e.taken ++ byte.taken; gave = e.gave; died = λ _. byte.ends.2 ∙ h.unended; ends = (e.report, byte.ends.1, omega (arith, e.size, none)) }
+    let none : length byte.read ≡ 0 = ap length byte.ends.0 in
+    let e = ended slot 131072 first mid now old new new byte.read (lit≤ tt) h byte.gave (omega arith) refl in
+    record { read = e.read ++ byte.read; gave = e.gave; died = λ _. byte.ends.2 ∙ h.unended; ends = (e.report, byte.ends.1, omega (arith, e.size, none)) }
 ends_after ReportFault slot first mid now old new alive h byte = absurd byte.ends
 ends_after Memory slot first mid now old new alive h byte = absurd byte.ends
 
 -- a line that is dead gives nothing
 pub dead_run : (slot : ℕ) (line : InView) (report : Option (List ℕ)) → line.state ≡ Dead → SlotEnded slot line line report report Cut
 dead_run slot line report dead = record {
-  taken = [];
+  read = [];
   gave = gave_none line;
   died = λ _. refl;
   ends = (after-none report ∙ ap (after report) (sym (slot_report-whole slot [] 0 refl (lit≤ tt) ∙ until-none slot [])), dead, lit≤ tt);

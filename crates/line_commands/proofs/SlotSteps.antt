@@ -21,5 +21,5 @@ live_of Empty n alive idle =
 -- a step that got a whole frame, and wrote its slot or a part of it
 pub step_written : (answer : Written) (slot : ℕ) (frame : List ℕ) (first now : InView) (old new : Option (List ℕ)) → Gave first frame now
     → length frame ≡ 16320 → now.state ≡ first.state → now.ended ≡ first.ended → SlotWritten answer slot frame old new → SlotStep slot first now old new (step_of answer)
-step_written Whole slot frame first now old new gave size state unended written = record { taken = frame; gave = gave; ends = (size, state, written, unended) }
-step_written Lost slot frame first now old new gave size state unended written = record { taken = frame; gave = gave; ends = (size, state, written) }
+step_written Whole slot frame first now old new gave size state unended written = record { read = frame; gave = gave; ends = (size, state, written, unended) }
+step_written Lost slot frame first now old new gave size state unended written = record { read = frame; gave = gave; ends = (size, state, written) }

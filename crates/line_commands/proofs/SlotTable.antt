@@ -75,11 +75,11 @@ report_most slot bytes more many =
 part_of_more : (slot : ℕ) (bytes more : List ℕ) (old new : Option (List ℕ)) → GainsPart old new (slot_report slot bytes) → GainsPart old new (slot_report slot (bytes ++ more))
 part_of_more slot bytes more old new h =
     let longer = report_prefix slot bytes more in
-    let within : h.went ≤ length (slot_report slot bytes) = omega (arith, h.part) in
+    let within : h.written ≤ length (slot_report slot bytes) = omega (arith, h.part) in
     record {
-      went = h.went;
+      written = h.written;
       part = omega (arith, ap length longer.1, length-append (slot_report slot bytes) longer.0, h.part);
-      gained = h.gained ∙ ap (after old) (sym (ap (take h.went) longer.1 ∙ take-append-le h.went (slot_report slot bytes) longer.0 within));
+      gained = h.gained ∙ ap (after old) (sym (ap (take h.written) longer.1 ∙ take-append-le h.written (slot_report slot bytes) longer.0 within));
     }
 
 -- an ended line has nothing beyond what was taken
@@ -88,39 +88,39 @@ ended_given Live left answered rest live other ended = let h : IfSome (Some rest
 ended_given Empty left answered rest live other ended = other (λ e. cc)
 ended_given Dead left answered rest live other ended = other (λ e. cc)
 
-all_given : (first now : InView) (taken given : List ℕ) → Beyond taken given now.state now.left → HasEnded now.left now.ended → given ≡ taken
-all_given first now taken given h ended =
-    h.parts ∙ ap (λ xs. taken ++ xs) (ended_given now.state now.left now.ended h.rest h.live h.other ended) ∙ append-nil taken
+all_given : (first now : InView) (read available : List ℕ) → Beyond read available now.state now.left → HasEnded now.left now.ended → available ≡ read
+all_given first now read available h ended =
+    h.parts ∙ ap (λ xs. read ++ xs) (ended_given now.state now.left now.ended h.rest h.live h.other ended) ∙ append-nil read
 
-dead_given : (first now : InView) (taken given : List ℕ) → Beyond taken given now.state now.left → now.state ≡ Dead → given ≡ taken
-dead_given first now taken given h dead =
+dead_given : (first now : InView) (read available : List ℕ) → Beyond read available now.state now.left → now.state ≡ Dead → available ≡ read
+dead_given first now read available h dead =
     let no : now.state ≢ Live = λ live. let e : Dead ≡ Live = sym dead ∙ live in absurd (cc) in
-    h.parts ∙ ap (λ xs. taken ++ xs) (h.other no) ∙ append-nil taken
+    h.parts ∙ ap (λ xs. read ++ xs) (h.other no) ∙ append-nil read
 
 -- a report fault comes after bytes were taken, so the line was not dead
 fault_alive : (slot : ℕ) (first now : InView) (old new : Option (List ℕ)) → SlotEnded slot first now old new ReportFault → now.state ≢ Dead
 fault_alive slot first now old new h dead =
     let before : first.state ≡ Dead = sym h.ends.1 ∙ dead in
     let no : first.state ≢ Live = λ live. let e : Dead ≡ Live = sym before ∙ live in absurd (cc) in
-    let none : length h.taken ≡ 0 = ap length (h.gave.idle no).1 in
+    let none : length h.read ≡ 0 = ap length (h.gave.idle no).1 in
     omega (arith, none, h.ends.0.last)
 
 -- ---- what `slot` answers for
 
 pub slot_ran : (ended : Ended) (slot : ℕ) (old new : Device) → SlotEnded slot (line_zero old) (line_zero new) old.report.got new.report.got ended → SlotRan slot old new (line_status ended)
 slot_ran Done slot old new h = record {
-  taken = h.taken;
+  read = h.read;
   gave = h.gave;
   died = h.died;
   wrote = h.ends.0;
   stopped = λ e. absurd (cc);
   cut = (λ e. absurd (cc), λ dead. absurd (h.ends.1 dead));
-  unfinished = λ _. (λ e. absurd (cc), λ x. let more : whole_frames_used (length h.taken) * 16320 < length h.taken = x.1 in absurd (omega (arith, h.ends.3, more)));
+  unfinished = λ _. (λ e. absurd (cc), λ x. let more : whole_frames_used (length h.read) * 16320 < length h.read = x.1 in absurd (omega (arith, h.ends.3, more)));
   most = h.ends.4;
   all = λ _ _. inl h.ends.2;
 }
 slot_ran Unfinished slot old new h = record {
-  taken = h.taken;
+  read = h.read;
   gave = h.gave;
   died = h.died;
   wrote = h.ends.0;
@@ -131,7 +131,7 @@ slot_ran Unfinished slot old new h = record {
   all = λ _ _. h.ends.3;
 }
 slot_ran Cut slot old new h = record {
-  taken = h.taken;
+  read = h.read;
   gave = h.gave;
   died = h.died;
   wrote = h.ends.0;
@@ -142,10 +142,10 @@ slot_ran Cut slot old new h = record {
   all = λ _ alive. absurd (alive h.ends.1);
 }
 slot_ran ReportFault slot old new h = record {
-  taken = h.taken;
+  read = h.read;
   gave = h.gave;
   died = h.died;
-  wrote = part_of_report slot h.taken old.report.got new.report.got h.ends.2 h.ends.0;
+  wrote = part_of_report slot h.read old.report.got new.report.got h.ends.2 h.ends.0;
   stopped = λ _. h.ends.0;
   cut = (λ e. absurd (cc), λ dead. absurd (fault_alive slot (line_zero old) (line_zero new) old.report.got new.report.got h dead));
   unfinished = λ no. absurd (no refl);
@@ -157,76 +157,76 @@ slot_ran Memory slot old new h = absurd h.ends
 -- ---- by Given
 
 -- what Given has beyond the bytes taken: nothing, or the most were taken
-abbrev pub IsAllOrMost : (taken given : List ℕ) → Type 0
-IsAllOrMost taken given = (given ≡ taken) ⊎ (length taken ≡ 131072 * 16320 + 1)
+abbrev pub IsAllOrMost : (read available : List ℕ) → Type 0
+IsAllOrMost read available = (available ≡ read) ⊎ (length read ≡ 131072 * 16320 + 1)
 
-pub all_or_most : (slot : ℕ) (old new : Device) (answer : Status) (given : List ℕ) (h : SlotRan slot old new answer) → answer ≢ status.ReportFault
-    → Beyond h.taken given (line_zero new).state (line_zero new).left → IsAllOrMost h.taken given
-all_or_most slot old new answer given h other b = by_life (is_dead (line_zero new).state)
+pub all_or_most : (slot : ℕ) (old new : Device) (answer : Status) (available : List ℕ) (h : SlotRan slot old new answer) → answer ≢ status.ReportFault
+    → Beyond h.read available (line_zero new).state (line_zero new).left → IsAllOrMost h.read available
+all_or_most slot old new answer available h other b = by_life (is_dead (line_zero new).state)
   where
-    by_end : HasEnded (line_zero new).left (line_zero new).ended ⊎ (length h.taken ≡ 131072 * 16320 + 1) → IsAllOrMost h.taken given
-    by_end (inl ended) = inl (all_given (line_zero old) (line_zero new) h.taken given b ended)
+    by_end : HasEnded (line_zero new).left (line_zero new).ended ⊎ (length h.read ≡ 131072 * 16320 + 1) → IsAllOrMost h.read available
+    by_end (inl ended) = inl (all_given (line_zero old) (line_zero new) h.read available b ended)
     by_end (inr many) = inr many
 
-    by_life : ((line_zero new).state ≡ Dead) ⊎ ((line_zero new).state ≢ Dead) → IsAllOrMost h.taken given
-    by_life (inl dead) = inl (dead_given (line_zero old) (line_zero new) h.taken given b dead)
+    by_life : ((line_zero new).state ≡ Dead) ⊎ ((line_zero new).state ≢ Dead) → IsAllOrMost h.read available
+    by_life (inl dead) = inl (dead_given (line_zero old) (line_zero new) h.read available b dead)
     by_life (inr alive) = by_end (h.all other alive)
 
 -- what is written
-pub slot_reports : (slot : ℕ) (old new : Device) (answer : Status) (given : List ℕ) → SlotRan slot old new answer
-    → HadToGive (line_zero old) (line_zero new) given → Reports answer old.report.got new.report.got (slot_report slot given)
-slot_reports slot old new answer given h is = by_answer (is_report_fault answer)
+pub slot_reports : (slot : ℕ) (old new : Device) (answer : Status) (available : List ℕ) → SlotRan slot old new answer
+    → HadToGive (line_zero old) (line_zero new) available → Reports answer old.report.got new.report.got (slot_report slot available)
+slot_reports slot old new answer available h is = by_answer (is_report_fault answer)
   where
-    b : Beyond h.taken given (line_zero new).state (line_zero new).left
-    b = given_of_gave (line_zero old) (line_zero new) h.taken given h.gave is
+    b : Beyond h.read available (line_zero new).state (line_zero new).left
+    b = given_of_gave (line_zero old) (line_zero new) h.read available h.gave is
 
-    same : IsAllOrMost h.taken given → slot_report slot h.taken ≡ slot_report slot given
+    same : IsAllOrMost h.read available → slot_report slot h.read ≡ slot_report slot available
     same (inl all) = ap (slot_report slot) (sym all)
-    same (inr many) = sym (ap (slot_report slot) b.parts ∙ report_most slot h.taken b.rest (omega (arith, many)))
+    same (inr many) = sym (ap (slot_report slot) b.parts ∙ report_most slot h.read b.rest (omega (arith, many)))
 
-    by_answer : (answer ≡ status.ReportFault) ⊎ (answer ≢ status.ReportFault) → Reports answer old.report.got new.report.got (slot_report slot given)
+    by_answer : (answer ≡ status.ReportFault) ⊎ (answer ≢ status.ReportFault) → Reports answer old.report.got new.report.got (slot_report slot available)
     by_answer (inl fault) =
-        let part : GainsPart old.report.got new.report.got (slot_report slot h.taken) = subst (λ s. Reports s old.report.got new.report.got (slot_report slot h.taken)) fault h.wrote in
-        let more = subst (λ xs. GainsPart old.report.got new.report.got (slot_report slot xs)) (sym b.parts) (part_of_more slot h.taken b.rest old.report.got new.report.got part) in
-        subst (λ s. Reports s old.report.got new.report.got (slot_report slot given)) (sym fault) more
+        let part : GainsPart old.report.got new.report.got (slot_report slot h.read) = subst (λ s. Reports s old.report.got new.report.got (slot_report slot h.read)) fault h.wrote in
+        let more = subst (λ xs. GainsPart old.report.got new.report.got (slot_report slot xs)) (sym b.parts) (part_of_more slot h.read b.rest old.report.got new.report.got part) in
+        subst (λ s. Reports s old.report.got new.report.got (slot_report slot available)) (sym fault) more
     by_answer (inr other) =
-        subst (Reports answer old.report.got new.report.got) (same (all_or_most slot old new answer given h other b)) h.wrote
+        subst (Reports answer old.report.got new.report.got) (same (all_or_most slot old new answer available h other b)) h.wrote
 
 -- how many bytes were taken, by the place's number
 counted : (old new n : ℕ) → new ≡ raised old n → new < 2 ^ 64 - 1 → new - old ≡ n
 counted old new n e below = omega arith
 
 -- how it stopped
-pub slot_stopped : (slot : ℕ) (old new : Device) (given : List ℕ) → SlotRan slot old new status.ReportFault → HadToGive (line_zero old) (line_zero new) given
-    → (line_zero new).number < 2 ^ 64 - 1 → StoppedInFrame slot given ((line_zero new).number - (line_zero old).number) old.report.got new.report.got
-slot_stopped slot old new given h is below =
-    let b = given_of_gave (line_zero old) (line_zero new) h.taken given h.gave is in
-    let n = counted (line_zero old).number (line_zero new).number (length h.taken) h.gave.takes.number below in
+pub slot_stopped : (slot : ℕ) (old new : Device) (available : List ℕ) → SlotRan slot old new status.ReportFault → HadToGive (line_zero old) (line_zero new) available
+    → (line_zero new).number < 2 ^ 64 - 1 → StoppedInFrame slot available ((line_zero new).number - (line_zero old).number) old.report.got new.report.got
+slot_stopped slot old new available h is below =
+    let b = given_of_gave (line_zero old) (line_zero new) h.read available h.gave is in
+    let n = counted (line_zero old).number (line_zero new).number (length h.read) h.gave.takes.number below in
     let k = h.stopped refl in
-    let until = until-append slot h.taken b.rest k.f (omega (arith, k.last)) in
-    let frame = frame_at-append h.taken b.rest k.f (omega (arith, k.last)) in
+    let until = until-append slot h.read b.rest k.f (omega (arith, k.last)) in
+    let frame = frame_at-append h.read b.rest k.f (omega (arith, k.last)) in
     subst (λ xs. StoppedInFrame slot xs ((line_zero new).number - (line_zero old).number) old.report.got new.report.got) (sym b.parts)
     (record {
       f = k.f;
       last = n ∙ k.last;
-      gained = subst (λ xs. GainsPart (after old.report.got xs) new.report.got (slot_bytes slot (frame_at (h.taken ++ b.rest) k.f))) (sym until)
-          (subst (λ xs. GainsPart (after old.report.got (slot_bytes_until slot h.taken k.f)) new.report.got (slot_bytes slot xs)) (sym frame) k.gained);
+      gained = subst (λ xs. GainsPart (after old.report.got xs) new.report.got (slot_bytes slot (frame_at (h.read ++ b.rest) k.f))) (sym until)
+          (subst (λ xs. GainsPart (after old.report.got (slot_bytes_until slot h.read k.f)) new.report.got (slot_bytes slot xs)) (sym frame) k.gained);
     })
 
 -- bytes stand behind the whole frames that are used, of what was taken just where of what was given
-same_rest : (taken given : List ℕ) (rest : List ℕ) → given ≡ taken ++ rest → IsAllOrMost taken given → HasBytesBehind (length taken) ↔ HasBytesBehind (length given)
-same_rest taken given rest parts (inl all) = (subst (λ xs. HasBytesBehind (length xs)) (sym all), subst (λ xs. HasBytesBehind (length xs)) all)
-same_rest taken given rest parts (inr many) =
-    let size : length given ≡ length taken + length rest = ap length parts ∙ length-append taken rest in
-    let most : whole_frames_used (length given) ≡ 131072 = used-most (length given) (omega (arith, size, many)) in
-    let here : whole_frames_used (length taken) ≡ 131072 = used-most (length taken) (omega (arith, many)) in
+same_rest : (read available : List ℕ) (rest : List ℕ) → available ≡ read ++ rest → IsAllOrMost read available → HasBytesBehind (length read) ↔ HasBytesBehind (length available)
+same_rest read available rest parts (inl all) = (subst (λ xs. HasBytesBehind (length xs)) (sym all), subst (λ xs. HasBytesBehind (length xs)) all)
+same_rest read available rest parts (inr many) =
+    let size : length available ≡ length read + length rest = ap length parts ∙ length-append read rest in
+    let most : whole_frames_used (length available) ≡ 131072 = used-most (length available) (omega (arith, size, many)) in
+    let here : whole_frames_used (length read) ≡ 131072 = used-most (length read) (omega (arith, many)) in
     (λ _. omega (arith, size, many, most), λ _. omega (arith, many, here))
 
-pub slot_unfinished : (slot : ℕ) (old new : Device) (answer : Status) (given : List ℕ) → SlotRan slot old new answer → answer ≢ status.ReportFault
-    → HadToGive (line_zero old) (line_zero new) given → (answer ≡ status.Unfinished) ↔ (((line_zero new).state ≢ Dead) × HasBytesBehind (length given))
-slot_unfinished slot old new answer given h other is =
-    let b = given_of_gave (line_zero old) (line_zero new) h.taken given h.gave is in
-    let same = same_rest h.taken given b.rest b.parts (all_or_most slot old new answer given h other b) in
+pub slot_unfinished : (slot : ℕ) (old new : Device) (answer : Status) (available : List ℕ) → SlotRan slot old new answer → answer ≢ status.ReportFault
+    → HadToGive (line_zero old) (line_zero new) available → (answer ≡ status.Unfinished) ↔ (((line_zero new).state ≢ Dead) × HasBytesBehind (length available))
+slot_unfinished slot old new answer available h other is =
+    let b = given_of_gave (line_zero old) (line_zero new) h.read available h.gave is in
+    let same = same_rest h.read available b.rest b.parts (all_or_most slot old new answer available h other b) in
     let u = h.unfinished other in
     (λ e. let x = u.0 e in (x.0, same.0 x.1), λ x. u.1 (x.0, same.1 x.1))
 
@@ -234,22 +234,22 @@ pub slot_counted : (slot : ℕ) (old new : Device) (answer : Status) → SlotRan
     → (line_zero new).number < 2 ^ 64 - 1
     → (answer ≡ status.Unfinished) ↔ (((line_zero new).state ≢ Dead) × HasBytesBehind ((line_zero new).number - (line_zero old).number))
 slot_counted slot old new answer h other below =
-    let n = counted (line_zero old).number (line_zero new).number (length h.taken) h.gave.takes.number below in
+    let n = counted (line_zero old).number (line_zero new).number (length h.read) h.gave.takes.number below in
     subst (λ k. (answer ≡ status.Unfinished) ↔ (((line_zero new).state ≢ Dead) × HasBytesBehind k)) (sym n) (h.unfinished other)
 
 -- as many as there are, but of the most frames and one byte more at most
-least_of : (taken given rest : List ℕ) → given ≡ taken ++ rest → length taken ≤ 131072 * 16320 + 1 → IsAllOrMost taken given
-    → length taken ≡ min (length given) (131072 * 16320 + 1)
-least_of taken given rest parts few (inl all) = omega (arith, ap length all, few)
-least_of taken given rest parts few (inr many) = omega (arith, ap length parts ∙ length-append taken rest, many)
+least_of : (read available rest : List ℕ) → available ≡ read ++ rest → length read ≤ 131072 * 16320 + 1 → IsAllOrMost read available
+    → length read ≡ min (length available) (131072 * 16320 + 1)
+least_of read available rest parts few (inl all) = omega (arith, ap length all, few)
+least_of read available rest parts few (inr many) = omega (arith, ap length parts ∙ length-append read rest, many)
 
-pub slot_took : (slot : ℕ) (old new : Device) (answer : Status) (given : List ℕ) → SlotRan slot old new answer → answer ≢ status.ReportFault
-    → HadToGive (line_zero old) (line_zero new) given → (line_zero new).number < 2 ^ 64 - 1
-    → (line_zero new).number - (line_zero old).number ≡ min (length given) (131072 * 16320 + 1)
-slot_took slot old new answer given h other is below =
-    let b = given_of_gave (line_zero old) (line_zero new) h.taken given h.gave is in
-    counted (line_zero old).number (line_zero new).number (length h.taken) h.gave.takes.number below
-    ∙ least_of h.taken given b.rest b.parts h.most (all_or_most slot old new answer given h other b)
+pub slot_took : (slot : ℕ) (old new : Device) (answer : Status) (available : List ℕ) → SlotRan slot old new answer → answer ≢ status.ReportFault
+    → HadToGive (line_zero old) (line_zero new) available → (line_zero new).number < 2 ^ 64 - 1
+    → (line_zero new).number - (line_zero old).number ≡ min (length available) (131072 * 16320 + 1)
+slot_took slot old new answer available h other is below =
+    let b = given_of_gave (line_zero old) (line_zero new) h.read available h.gave is in
+    counted (line_zero old).number (line_zero new).number (length h.read) h.gave.takes.number below
+    ∙ least_of h.read available b.rest b.parts h.most (all_or_most slot old new answer available h other b)
 
 -- ---- without faults
 

@@ -28,53 +28,53 @@ pub record LineAnswers (Ran : (old new : Device) → Status → Type 0) (old new
 
 pub record SlotRan (slot : ℕ) (old new : Device) (status : Status) : Type 0 where
   -- these bytes were taken of the line
-  pub taken : List ℕ
-  pub gave : Gave (line_zero old) taken (line_zero new)
+  pub read : List ℕ
+  pub gave : Gave (line_zero old) read (line_zero new)
   -- a line that died had not answered its end: nothing is asked of it behind that
   pub died : DiedUnended (line_zero old) (line_zero new)
   -- what they give was written, whole, or a part of it from the front where a write failed
-  pub wrote : Reports status old.report.got new.report.got (slot_report slot taken)
+  pub wrote : Reports status old.report.got new.report.got (slot_report slot read)
   -- that ended the command at once, with the frame whose slot was being written the last that was taken
-  pub stopped : status ≡ ReportFault → StoppedInFrame slot taken (length taken) old.report.got new.report.got
+  pub stopped : status ≡ ReportFault → StoppedInFrame slot read (length read) old.report.got new.report.got
   -- Cut is the answer exactly where the line is dead
   pub cut : (status ≡ Cut) ↔ ((line_zero new).state ≡ Dead)
   -- and, where no write failed, Unfinished exactly where the line is not dead, and bytes were taken behind the whole
   -- frames that are used; Done is the answer where none of Memory, ReportFault, Cut and Unfinished is
   pub unfinished : status ≢ ReportFault → (status ≡ Unfinished) ↔
-      (((line_zero new).state ≢ Dead) × HasBytesBehind (length taken))
+      (((line_zero new).state ≢ Dead) × HasBytesBehind (length read))
   -- never more than 131,072 frames and one byte
-  pub most : length taken ≤ most_taken
+  pub most : length read ≤ most_taken
   -- where no write failed, all that there is was taken, so that a line that is not dead has answered its end, or that
   -- many
   pub all : status ≢ ReportFault → (line_zero new).state ≢ Dead → HasEnded (line_zero new).left (line_zero new).ended
-      ⊎ (length taken ≡ most_taken)
+      ⊎ (length read ≡ most_taken)
 
 -- ---- `pull PORT K,K`: what the sink of a tributary on line input 0 emits, turn by turn
 
 pub record PullRan (own : Tributary) (old new : Device) (status : Status) : Type 0 where
   -- These bytes were taken of the line. Where `more` is true, bytes may stand behind them, and what has a `rest` holds
   -- whatever that is; else `rest` is empty, and a live line has answered its end, whether or not it tells its bytes.
-  pub taken : List ℕ
-  pub gave : Gave (line_zero old) taken (line_zero new)
+  pub read : List ℕ
+  pub gave : Gave (line_zero old) read (line_zero new)
   pub more : Bool
   pub over : more ≡ false → (line_zero new).state ≡ Live → HasEnded (line_zero new).left (line_zero new).ended
   -- a line that died had not answered its end: nothing is asked of it behind that
   pub died : DiedUnended (line_zero old) (line_zero new)
   -- what they give was written, whole, or a part of it from the front where a write failed
   pub wrote : (rest : List ℕ) → MayFollow more rest
-      → Reports status old.report.got new.report.got (pull_report own (taken ++ rest))
+      → Reports status old.report.got new.report.got (pull_report own (read ++ rest))
   -- Cut is the answer where the line is dead, and Unfinished where it is not, and bytes stand behind the frames that
   -- the turns wanted: exactly so, but that a write may have failed before. Done is the answer where none of Memory,
   -- ReportFault, Cut and Unfinished is.
   pub cut : status ≢ ReportFault → (status ≡ Cut) ↔ ((line_zero new).state ≡ Dead)
   pub unfinished : status ≢ ReportFault → (rest : List ℕ) → MayFollow more rest
-      → (status ≡ Unfinished) ↔ (((line_zero new).state ≢ Dead) × LeavesBytes (taken ++ rest))
+      → (status ≡ Unfinished) ↔ (((line_zero new).state ≢ Dead) × LeavesBytes (read ++ rest))
   -- the same, seen from the bytes taken alone, with no rest
   pub counted : status ≢ ReportFault → (status ≡ Unfinished) ↔
-      (((line_zero new).state ≢ Dead) × (0 < length taken % LINE_FRAME_BYTES))
+      (((line_zero new).state ≢ Dead) × (0 < length read % LINE_FRAME_BYTES))
   -- as many bytes were taken as the turns want and one more, or all that there are
-  pub took : status ≢ ReportFault → (rest : List ℕ) → MayFollow more rest → length taken ≡ bytes_taken (taken ++ rest)
+  pub took : status ≢ ReportFault → (rest : List ℕ) → MayFollow more rest → length read ≡ bytes_taken (read ++ rest)
   -- and where a write failed, that ended the command at once, with the turn whose bytes were being written the last
   pub stopped : status ≡ ReportFault
       → (t : ℕ) × ((rest : List ℕ) → MayFollow more rest
-      → StoppedInTurn own (taken ++ rest) (length taken) t old.report.got new.report.got)
+      → StoppedInTurn own (read ++ rest) (length read) t old.report.got new.report.got)

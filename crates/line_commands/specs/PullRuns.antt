@@ -24,14 +24,14 @@ PullEnds Memory more read now = ⊥
 -- A command from the line and the report as they were to how they are. Where no more bytes may follow, a live line has
 -- answered its end.
 pub record PullEnded (own : Tributary) (first now : InView) (old new : Option (List ℕ)) (ended : Ended) : Type 0 where
-  pub taken : List ℕ
-  pub gave : Gave first taken now
+  pub read : List ℕ
+  pub gave : Gave first read now
   pub more : Bool
   pub over : more ≡ false → now.state ≡ Live → HasEnded now.left now.ended
   pub died : DiedUnended first now
   pub report : (rest : List ℕ) → MayFollow more rest
-      → Reports (line_status ended) old new (pull_report own (taken ++ rest))
-  pub ends : PullEnds ended more taken now
-  pub took : ended ≢ ReportFault → (rest : List ℕ) → MayFollow more rest → length taken ≡ bytes_taken (taken ++ rest)
+      → Reports (line_status ended) old new (pull_report own (read ++ rest))
+  pub ends : PullEnds ended more read now
+  pub took : ended ≢ ReportFault → (rest : List ℕ) → MayFollow more rest → length read ≡ bytes_taken (read ++ rest)
   pub stopped : ended ≡ ReportFault → (t : ℕ)
-      × ((rest : List ℕ) → MayFollow more rest → StoppedInTurn own (taken ++ rest) (length taken) t old new)
+      × ((rest : List ℕ) → MayFollow more rest → StoppedInTurn own (read ++ rest) (length read) t old new)

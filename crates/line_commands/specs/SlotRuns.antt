@@ -28,7 +28,7 @@ SlotEnds Memory slot read first now old new = ⊥
 
 -- a command from the line and the report as they were to how they are
 pub record SlotEnded (slot : ℕ) (first now : InView) (old new : Option (List ℕ)) (ended : Ended) : Type 0 where
-  pub taken : List ℕ
-  pub gave : Gave first taken now
+  pub read : List ℕ
+  pub gave : Gave first read now
   pub died : DiedUnended first now
-  pub ends : SlotEnds ended slot taken first now old new
+  pub ends : SlotEnds ended slot read first now old new

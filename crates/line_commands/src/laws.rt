@@ -34,8 +34,8 @@ pub fn slot_of_given()
     ensures took { (slot : ℕ) → OfAllAvailable (SlotRan slot) (λ old new answer available.
         (line_zero new).number < 2 ^ 64 - 1
         → (line_zero new).number - (line_zero old).number ≡ min (length available) most_taken) }
-    ensures stopped { (slot : ℕ) → OfTaken (SlotRan slot) (λ old new available taken.
-        StoppedInFrame slot available taken old.report.got new.report.got) }
+    ensures stopped { (slot : ℕ) → OfTaken (SlotRan slot) (λ old new available read.
+        StoppedInFrame slot available read old.report.got new.report.got) }
 {}
 
 /// `pull`, likewise: Unfinished is the answer exactly where bytes stand behind the frames that its turns wanted
@@ -54,8 +54,8 @@ pub fn pull_of_given()
     ensures took { (own : Tributary) → OfAllAvailable (PullRan own) (λ old new answer available.
         (line_zero new).number < 2 ^ 64 - 1
         → (line_zero new).number - (line_zero old).number ≡ bytes_taken available) }
-    ensures stopped { (own : Tributary) → OfTaken (PullRan own) (λ old new available taken.
-        (t : ℕ) × StoppedInTurn own available taken t old.report.got new.report.got) }
+    ensures stopped { (own : Tributary) → OfTaken (PullRan own) (λ old new available read.
+        (t : ℕ) × StoppedInTurn own available read t old.report.got new.report.got) }
 {}
 
 /// Two worlds: lines that have as many whole frames, and the same bytes in a slot's payload columns, give

@@ -50,12 +50,12 @@ ended_now size ms (Locked lock) h = let no_more = le-ltb (length ms) (lock.frame
 ended_now size ms Ended h = (λ e. refl, λ e. refl)
 
 -- a line that stands before turn t + 1 knows whether it has ended
-pub ended_is : (form : LineForm) (first now : InView) (taken given : List ℕ) (t : ℕ) (line : LineView) → line.pieces ≡ 0 → LineStands form first now taken t line → MayBe form.scrambled line.reader.ending taken given
-    → (line.ended ≡ true) ↔ (line_state (size_of form) (mfas_of given) t ≡ Ended)
-ended_is form first now taken given t line none h may =
-    let said : line.ended ≡ ended_in (size_of form) (mfas_of given) (line_state (size_of form) (mfas_of given) t) 0
-    = (h.is_line given may).ended ∙ ap (ended_in (size_of form) (mfas_of given) (line_state (size_of form) (mfas_of given) t)) none in
-    let x = ended_now (size_of form) (mfas_of given) (line_state (size_of form) (mfas_of given) t) (line_state_within (size_of form) (mfas_of given) t) in
+pub ended_is : (form : LineForm) (first now : InView) (read available : List ℕ) (t : ℕ) (line : LineView) → line.pieces ≡ 0 → LineStands form first now read t line → MayBe form.scrambled line.reader.ending read available
+    → (line.ended ≡ true) ↔ (line_state (size_of form) (mfas_of available) t ≡ Ended)
+ended_is form first now read available t line none h may =
+    let said : line.ended ≡ ended_in (size_of form) (mfas_of available) (line_state (size_of form) (mfas_of available) t) 0
+    = (h.is_line available may).ended ∙ ap (ended_in (size_of form) (mfas_of available) (line_state (size_of form) (mfas_of available) t)) none in
+    let x = ended_now (size_of form) (mfas_of available) (line_state (size_of form) (mfas_of available) t) (line_state_within (size_of form) (mfas_of available) t) in
     (λ e. x.0 (sym said ∙ e), λ e. said ∙ x.1 e)
 
 -- the alignment of a turn that is locked
@@ -80,22 +80,22 @@ expected_by ms (Some lock) k result alignment h e =
     by_test false e = tt
 
 -- the frame in hand is the one to which the last piece came
-pub hand_in : (form : LineForm) (first now : InView) (taken given frame : List ℕ) (t : ℕ) (line : LineView) → frame ≡ line.reader.hand → LineStands form first now taken t line
-    → MayBe form.scrambled line.reader.ending taken given
-    → IfSome (in_hand (size_of form) (mfas_of given) (line_state (size_of form) (mfas_of given) t) line.pieces) (λ member. frame ≡ frame_at given member.frame)
-hand_in form first now taken given frame t line e h may =
-    let P : List ℕ → Type 0 = λ f. IfSome (in_hand (size_of form) (mfas_of given) (line_state (size_of form) (mfas_of given) t) line.pieces) (λ member. f ≡ frame_at given member.frame) in
-    subst P (sym e) (h.is_line given may).hand
+pub hand_in : (form : LineForm) (first now : InView) (read available frame : List ℕ) (t : ℕ) (line : LineView) → frame ≡ line.reader.hand → LineStands form first now read t line
+    → MayBe form.scrambled line.reader.ending read available
+    → IfSome (in_hand (size_of form) (mfas_of available) (line_state (size_of form) (mfas_of available) t) line.pieces) (λ member. frame ≡ frame_at available member.frame)
+hand_in form first now read available frame t line e h may =
+    let P : List ℕ → Type 0 = λ f. IfSome (in_hand (size_of form) (mfas_of available) (line_state (size_of form) (mfas_of available) t) line.pieces) (λ member. f ≡ frame_at available member.frame) in
+    subst P (sym e) (h.is_line available may).hand
 
 -- the MFAS that is expected in hand is that of the alignment
-pub expected_is : (form : LineForm) (first now : InView) (taken given : List ℕ) (t k result : ℕ) (line : LineView) → line.pieces ≡ suc k → LineStands form first now taken t line
-    → MayBe form.scrambled line.reader.ending taken given → IfSome line.alignment (λ a. result ≡ (a.expected + (line.pieces - 1)) % 256)
-    → IfSome (in_hand (size_of form) (mfas_of given) (line_state (size_of form) (mfas_of given) t) line.pieces) (λ member. result ≡ member.expected)
-expected_is form first now taken given t k result line some h may e =
+pub expected_is : (form : LineForm) (first now : InView) (read available : List ℕ) (t k result : ℕ) (line : LineView) → line.pieces ≡ suc k → LineStands form first now read t line
+    → MayBe form.scrambled line.reader.ending read available → IfSome line.alignment (λ a. result ≡ (a.expected + (line.pieces - 1)) % 256)
+    → IfSome (in_hand (size_of form) (mfas_of available) (line_state (size_of form) (mfas_of available) t) line.pieces) (λ member. result ≡ member.expected)
+expected_is form first now read available t k result line some h may e =
     let size = size_of form in
-    let P : ℕ → Type 0 = λ k. AlignedIn size (mfas_of given) (line_state size (mfas_of given) t) k line.alignment in
-    let Q : ℕ → Type 0 = λ k. IfSome (in_hand size (mfas_of given) (line_state size (mfas_of given) t) k) (λ member. result ≡ member.expected) in
+    let P : ℕ → Type 0 = λ k. AlignedIn size (mfas_of available) (line_state size (mfas_of available) t) k line.alignment in
+    let Q : ℕ → Type 0 = λ k. IfSome (in_hand size (mfas_of available) (line_state size (mfas_of available) t) k) (λ member. result ≡ member.expected) in
     let R : ℕ → Type 0 = λ p. IfSome line.alignment (λ a. result ≡ (a.expected + p) % 256) in
     let one : line.pieces - 1 ≡ k = omega arith in
-    subst Q (sym some) (expected_by (mfas_of given) (lock_of size (mfas_of given) (line_state size (mfas_of given) t)) k result line.alignment
-    (aligned size (mfas_of given) (line_state size (mfas_of given) t) k line.alignment (subst P some (h.is_line given may).alignment)) (subst R one e))
+    subst Q (sym some) (expected_by (mfas_of available) (lock_of size (mfas_of available) (line_state size (mfas_of available) t)) k result line.alignment
+    (aligned size (mfas_of available) (line_state size (mfas_of available) t) k line.alignment (subst P some (h.is_line available may).alignment)) (subst R one e))

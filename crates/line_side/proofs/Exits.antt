@@ -30,30 +30,30 @@ none_left s left answered rest live other ended = go (live_or_not s)
     go (inr idle) = other idle
 
 pub given_among : GivenIsAmong
-given_among form first now taken file t line h g =
-    let b = given_of_gave first now taken file h.gave g in
+given_among form first now read file t line h g =
+    let b = given_of_gave first now read file h.gave g in
     record { rest = b.rest; over = λ closed. none_left now.state now.left now.ended b.rest b.live b.other (h.over closed); parts = ap (through_mask form.scrambled) b.parts }
 
 -- so many bytes were read as the turns and pieces so far want
-took_of : (size : ℕ) (given : List ℕ) (n t : ℕ) (line : LineView) → IsLine size given n t line → n ≡ took 16320 (length given) (mfas_of given) (wanted_so_far size (mfas_of given) t line.pieces)
-took_of size given n t line h = by_ending line.reader.ending refl
+took_of : (size : ℕ) (available : List ℕ) (n t : ℕ) (line : LineView) → IsLine size available n t line → n ≡ took 16320 (length available) (mfas_of available) (wanted_so_far size (mfas_of available) t line.pieces)
+took_of size available n t line h = by_ending line.reader.ending refl
   where
-    over : line.reader.ending ≢ Open → n ≡ took 16320 (length given) (mfas_of given) (wanted_so_far size (mfas_of given) t line.pieces)
+    over : line.reader.ending ≢ Open → n ≡ took 16320 (length available) (mfas_of available) (wanted_so_far size (mfas_of available) t line.pieces)
     over closed =
         let o = h.read.over closed in
-        let e = length_mfas given in
-        let past : ltb (length (mfas_of given)) (wanted_so_far size (mfas_of given) t line.pieces) ≡ true = lt-ltb _ _ (omega arith) in
-        o.1 ∙ sym (ap (λ b. cond b (length given) (16320 * wanted_so_far size (mfas_of given) t line.pieces)) past)
+        let e = length_mfas available in
+        let past : ltb (length (mfas_of available)) (wanted_so_far size (mfas_of available) t line.pieces) ≡ true = lt-ltb _ _ (omega arith) in
+        o.1 ∙ sym (ap (λ b. cond b (length available) (16320 * wanted_so_far size (mfas_of available) t line.pieces)) past)
 
-    by_ending : (e : Ending) → line.reader.ending ≡ e → n ≡ took 16320 (length given) (mfas_of given) (wanted_so_far size (mfas_of given) t line.pieces)
+    by_ending : (e : Ending) → line.reader.ending ≡ e → n ≡ took 16320 (length available) (mfas_of available) (wanted_so_far size (mfas_of available) t line.pieces)
     by_ending Open e =
         let s = h.read.still e in
         let within = h.read.within in
-        let count = length_mfas given in
-        let inside : ltb (length (mfas_of given)) (wanted_so_far size (mfas_of given) t line.pieces) ≡ false = le-ltb _ _ (omega arith) in
-        s.0 ∙ ap (λ x. 16320 * x) s.1 ∙ sym (ap (λ b. cond b (length given) (16320 * wanted_so_far size (mfas_of given) t line.pieces)) inside)
+        let count = length_mfas available in
+        let inside : ltb (length (mfas_of available)) (wanted_so_far size (mfas_of available) t line.pieces) ≡ false = le-ltb _ _ (omega arith) in
+        s.0 ∙ ap (λ x. 16320 * x) s.1 ∙ sym (ap (λ b. cond b (length available) (16320 * wanted_so_far size (mfas_of available) t line.pieces)) inside)
     by_ending Seen e = over (λ f. cc)
     by_ending Died e = over (λ f. cc)
 
 pub took_is : TakesTheWanted
-took_is form first now taken given t line h may = took_of (size_of form) given (length taken) t line (h.is_line given may)
+took_is form first now read available t line h may = took_of (size_of form) available (length read) t line (h.is_line available may)

@@ -40,18 +40,18 @@ step_twice old mid new was half is x y g h = record {
 }
 
 -- what the line may have after a step it might have before
-pub may_before : (old new : ReaderView) (was is : InView) (came taken given : List ℕ) → ReadStep old was came new is → MayBe new.scrambled new.ending (taken ++ came) given
-    → MayBe old.scrambled old.ending taken given
-may_before old new was is came taken given step may = record {
-  rest = came ++ may.rest;
+pub may_before : (old new : ReaderView) (was is : InView) (further read available : List ℕ) → ReadStep old was further new is → MayBe new.scrambled new.ending (read ++ further) available
+    → MayBe old.scrambled old.ending read available
+may_before old new was is further read available step may = record {
+  rest = further ++ may.rest;
   over = λ closed. let q = step.quiet closed in rw (q.0, may.over q.1) refl;
-  parts = may.parts ∙ ap (λ s. through_mask s ((taken ++ came) ++ may.rest)) step.scrambled ∙ ap (through_mask old.scrambled) (append_assoc taken came may.rest);
+  parts = may.parts ∙ ap (λ s. through_mask s ((read ++ further) ++ may.rest)) step.scrambled ∙ ap (through_mask old.scrambled) (append_assoc read further may.rest);
 }
 
 -- the parts of two steps
-pub may_second : (new : ReaderView) (x y taken given : List ℕ) → MayBe new.scrambled new.ending (taken ++ (x ++ y)) given → MayBe new.scrambled new.ending ((taken ++ x) ++ y) given
-may_second new x y taken given may = let P : List ℕ → Type 0 = λ l. MayBe new.scrambled new.ending l given in subst P (sym (append_assoc taken x y)) may
+pub may_second : (new : ReaderView) (x y read available : List ℕ) → MayBe new.scrambled new.ending (read ++ (x ++ y)) available → MayBe new.scrambled new.ending ((read ++ x) ++ y) available
+may_second new x y read available may = let P : List ℕ → Type 0 = λ l. MayBe new.scrambled new.ending l available in subst P (sym (append_assoc read x y)) may
 
-pub may_first : (mid new : ReaderView) (half is : InView) (x y taken given : List ℕ) → ReadStep mid half y new is → MayBe new.scrambled new.ending (taken ++ (x ++ y)) given
-    → MayBe mid.scrambled mid.ending (taken ++ x) given
-may_first mid new half is x y taken given step may = may_before mid new half is y (taken ++ x) given step (may_second new x y taken given may)
+pub may_first : (mid new : ReaderView) (half is : InView) (x y read available : List ℕ) → ReadStep mid half y new is → MayBe new.scrambled new.ending (read ++ (x ++ y)) available
+    → MayBe mid.scrambled mid.ending (read ++ x) available
+may_first mid new half is x y read available step may = may_before mid new half is y (read ++ x) available step (may_second new x y read available may)

@@ -23,19 +23,19 @@ hunt_wanted size ms i zero w = w
 hunt_wanted size ms i (suc m) w = max w (i + suc m + one_if (looked_ahead size ms (i + m)))
 
 -- m frames from frame i on were passed over
-pub record HuntAt (size : ℕ) (given : List ℕ) (n i w m : ℕ) (line : LineView) : Type 0 where
-  pub read : HasRead given n (i + m) (hunt_wanted size (mfas_of given) i m w) line.reader
-  pub least : least_start size (mfas_of given) i m ≡ None
+pub record HuntAt (size : ℕ) (available : List ℕ) (n i w m : ℕ) (line : LineView) : Type 0 where
+  pub read : HasRead available n (i + m) (hunt_wanted size (mfas_of available) i m w) line.reader
+  pub least : least_start size (mfas_of available) i m ≡ None
 
 -- a hunt goes on after it has passed over m frames
 pub record HuntsOn (size : ℕ) (old : LineView) (was : InView) (m : ℕ) (line : LineView) (is : InView) : Type 0 where
-  pub came : List ℕ
-  pub step : ReadStep old.reader was came line.reader is
+  pub further : List ℕ
+  pub step : ReadStep old.reader was further line.reader is
   pub keeps : Keeps old line
   pub alignment : line.alignment ≡ old.alignment
   pub ended : line.ended ≡ old.ended
   pub passes_over : PassesOver old m line
-  pub at : OnAnyLine old.reader line.reader came (λ given n i w. HuntAt size given n i w m line)
+  pub at : OnAnyLine old.reader line.reader further (λ available n i w. HuntAt size available n i w m line)
 
 -- ---- the least start
 
@@ -69,8 +69,8 @@ one_most false = omega arith
 
 -- ---- what is wanted
 
-pub raised_wanted : (given : List ℕ) (n u w w' : ℕ) (r : ReaderView) → whole_frames given < w → w ≤ w' → HasRead given n u w r → HasRead given n u w' r
-raised_wanted given n u w w' r more up h = let within = h.within in record {
+pub raised_wanted : (available : List ℕ) (n u w w' : ℕ) (r : ReaderView) → whole_frames available < w → w ≤ w' → HasRead available n u w r → HasRead available n u w' r
+raised_wanted available n u w w' r more up h = let within = h.within in record {
   within = h.within;
   ahead = h.ahead;
   still = λ e. absurd (let s = h.still e in omega arith);
@@ -100,50 +100,50 @@ wanted_at size ms i (suc m) w some = ap (λ k. max w (i + suc m + one_if (looked
 
 pub hunt_begins : (size : ℕ) (old : LineView) (was : InView) → HuntsOn size old was 0 old was
 hunt_begins size old was = record {
-  came = [];
+  further = [];
   step = step_none old.reader was;
   keeps = record { kind = refl; pieces = refl; lost = refl };
   alignment = refl;
   ended = refl;
   passes_over = λ before e. omega arith;
-  at = λ given taken i w may h. rw (append-nil taken) (record {
-    read = same_used given (length taken) i (i + 0) w old.reader (omega arith) h;
-    least = least_none size (mfas_of given) i;
+  at = λ available read i w may h. rw (append-nil read) (record {
+    read = same_used available (length read) i (i + 0) w old.reader (omega arith) h;
+    least = least_none size (mfas_of available) i;
   });
 }
 
 pub hunt_passes : (size : ℕ) (old : LineView) (was : InView) (m : ℕ) (line new : LineView) (mid is : InView) → HuntsOn size old was m line mid → Tries size Passes line mid new is → HuntsOn size old was (m + 1) new is
 hunt_passes size old was m line new mid is h t = record {
-  came = h.came ++ t.came;
-  step = step_twice old.reader line.reader new.reader was mid is h.came t.came h.step t.step;
+  further = h.further ++ t.further;
+  step = step_twice old.reader line.reader new.reader was mid is h.further t.further h.step t.step;
   keeps = record { kind = t.keeps.kind ∙ h.keeps.kind; pieces = t.keeps.pieces ∙ h.keeps.pieces; lost = t.keeps.lost ∙ h.keeps.lost };
   alignment = (t.passed refl).0 ∙ h.alignment;
   ended = (t.passed refl).1 ∙ h.ended;
   passes_over = λ before e. (let x = t.passes_over (before + m) (h.passes_over before e) in omega arith);
-  at = λ given taken i w may r.
-      let a = h.at given taken i w (may_first line.reader new.reader mid is h.came t.came taken given t.step may) r in
-      let p = t.passes refl given (taken ++ h.came) (i + m) (hunt_wanted size (mfas_of given) i m w) (may_second new.reader h.came t.came taken given may) a.read in
-      rw (← append_assoc taken h.came t.came) (record {
-        read = same_used given _ (i + m + 1) (i + (m + 1)) _ new.reader (omega arith) (same_wanted given _ (i + m + 1) _ _ new.reader (wanted_next size (mfas_of given) i m w) p.read);
-        least = least_next size (mfas_of given) i m false a.least p.start;
+  at = λ available read i w may r.
+      let a = h.at available read i w (may_first line.reader new.reader mid is h.further t.further read available t.step may) r in
+      let p = t.passes refl available (read ++ h.further) (i + m) (hunt_wanted size (mfas_of available) i m w) (may_second new.reader h.further t.further read available may) a.read in
+      rw (← append_assoc read h.further t.further) (record {
+        read = same_used available _ (i + m + 1) (i + (m + 1)) _ new.reader (omega arith) (same_wanted available _ (i + m + 1) _ _ new.reader (wanted_next size (mfas_of available) i m w) p.read);
+        least = least_next size (mfas_of available) i m false a.least p.start;
       });
 }
 
 pub hunt_locks : (size : ℕ) (old : LineView) (was : InView) (m : ℕ) (line new : LineView) (mid is : InView) → m < size → HuntsOn size old was m line mid → Tries size Locks line mid new is → Hunts size true old was new is
 hunt_locks size old was m line new mid is few h t = record {
-  came = h.came ++ t.came;
-  step = step_twice old.reader line.reader new.reader was mid is h.came t.came h.step t.step;
+  further = h.further ++ t.further;
+  step = step_twice old.reader line.reader new.reader was mid is h.further t.further h.step t.step;
   keeps = record { kind = t.keeps.kind ∙ h.keeps.kind; pieces = t.keeps.pieces ∙ h.keeps.pieces; lost = t.keeps.lost ∙ h.keeps.lost };
   member = record { aligned = λ _. t.member.aligned refl; stays = λ f. absurd (cc); count = t.member.count ∙ ap (λ a. taken_count a + 1) h.alignment };
-  locks = λ _ given taken i w may r.
-      let a = h.at given taken i w (may_first line.reader new.reader mid is h.came t.came taken given t.step may) r in
-      let l = t.locks refl given (taken ++ h.came) (i + m) (hunt_wanted size (mfas_of given) i m w) (may_second new.reader h.came t.came taken given may) a.read in (
+  locks = λ _ available read i w may r.
+      let a = h.at available read i w (may_first line.reader new.reader mid is h.further t.further read available t.step may) r in
+      let l = t.locks refl available (read ++ h.further) (i + m) (hunt_wanted size (mfas_of available) i m w) (may_second new.reader h.further t.further read available may) a.read in (
         m,
-        rw (← append_assoc taken h.came t.came) (record {
-          least = ap (least_start size (mfas_of given) i) (let e : size ≡ m + 1 + (size - (m + 1)) = omega arith in e)
-              ∙ least_grows size (mfas_of given) i (m + 1) m (size - (m + 1)) (least_next size (mfas_of given) i m true a.least l.start);
+        rw (← append_assoc read h.further t.further) (record {
+          least = ap (least_start size (mfas_of available) i) (let e : size ≡ m + 1 + (size - (m + 1)) = omega arith in e)
+              ∙ least_grows size (mfas_of available) i (m + 1) m (size - (m + 1)) (least_next size (mfas_of available) i m true a.least l.start);
           locked = record {
-            read = same_wanted given _ (i + m + 1) _ _ new.reader (wanted_locked size (mfas_of given) i m w) l.read;
+            read = same_wanted available _ (i + m + 1) _ _ new.reader (wanted_locked size (mfas_of available) i m w) l.read;
             start = l.start;
             hand = l.hand;
             alignment = l.alignment;
@@ -157,48 +157,48 @@ hunt_locks size old was m line new mid is few h t = record {
 
 pub hunt_ends : (size : ℕ) (old : LineView) (was : InView) (m : ℕ) (line new : LineView) (mid is : InView) → m < size → HuntsOn size old was m line mid → Tries size Ends line mid new is → Hunts size false old was new is
 hunt_ends size old was m line new mid is few h t = record {
-  came = h.came ++ t.came;
-  step = step_twice old.reader line.reader new.reader was mid is h.came t.came h.step t.step;
+  further = h.further ++ t.further;
+  step = step_twice old.reader line.reader new.reader was mid is h.further t.further h.step t.step;
   keeps = record { kind = t.keeps.kind ∙ h.keeps.kind; pieces = t.keeps.pieces ∙ h.keeps.pieces; lost = t.keeps.lost ∙ h.keeps.lost };
   member = record { aligned = λ f. absurd (cc); stays = λ _. t.member.stays refl ∙ h.alignment; count = t.member.count ∙ ap (λ a. taken_count a + 0) h.alignment };
   locks = λ f. absurd (cc);
-  fails = λ _ given taken i w may r.
-      let a = h.at given taken i w (may_first line.reader new.reader mid is h.came t.came taken given t.step may) r in
-      let l = t.ends refl given (taken ++ h.came) (i + m) (hunt_wanted size (mfas_of given) i m w) (may_second new.reader h.came t.came taken given may) a.read in
-      let count = length_mfas given in
+  fails = λ _ available read i w may r.
+      let a = h.at available read i w (may_first line.reader new.reader mid is h.further t.further read available t.step may) r in
+      let l = t.ends refl available (read ++ h.further) (i + m) (hunt_wanted size (mfas_of available) i m w) (may_second new.reader h.further t.further read available may) a.read in
+      let count = length_mfas available in
       let end = l.end in
-      let most = wanted_most size (mfas_of given) i m w in
-      let W : ℕ = max w (i + size + one_if (looked_ahead size (mfas_of given) (i + size - 1))) in
-      rw (← append_assoc taken h.came t.came) (record {
-        least = ap (least_start size (mfas_of given) i) (let e : size ≡ m + (size - m) = omega arith in e)
-            ∙ least_past size (mfas_of given) i m (size - m) (omega arith) a.least;
-        read = same_used given _ (i + m) _ _ new.reader (let e : i + m ≡ min (length (mfas_of given)) (i + size) = omega arith in e)
-            (raised_wanted given _ (i + m) (max (hunt_wanted size (mfas_of given) i m w) (i + m + 1)) _ new.reader (omega arith) (omega arith) l.read);
+      let most = wanted_most size (mfas_of available) i m w in
+      let W : ℕ = max w (i + size + one_if (looked_ahead size (mfas_of available) (i + size - 1))) in
+      rw (← append_assoc read h.further t.further) (record {
+        least = ap (least_start size (mfas_of available) i) (let e : size ≡ m + (size - m) = omega arith in e)
+            ∙ least_past size (mfas_of available) i m (size - m) (omega arith) a.least;
+        read = same_used available _ (i + m) _ _ new.reader (let e : i + m ≡ min (length (mfas_of available)) (i + size) = omega arith in e)
+            (raised_wanted available _ (i + m) (max (hunt_wanted size (mfas_of available) i m w) (i + m + 1)) _ new.reader (omega arith) (omega arith) l.read);
         alignment = l.alignment ∙ h.alignment;
-        ended = l.ended ∙ sym (lt-ltb (length (mfas_of given)) (i + size) (omega arith));
+        ended = l.ended ∙ sym (lt-ltb (length (mfas_of available)) (i + size) (omega arith));
         passes_over = λ before e. (let x = t.passes_over (before + m) (h.passes_over before e) in
-            x ∙ ap saturated (let y : before + m + 0 ≡ before + min size (length (mfas_of given) - i) = omega arith in y));
+            x ∙ ap saturated (let y : before + m + 0 ≡ before + min size (length (mfas_of available) - i) = omega arith in y));
       });
 }
 
 pub hunt_fails : (size : ℕ) (old : LineView) (was : InView) (line : LineView) (is : InView) → 0 < size → old.ended ≡ false → HuntsOn size old was size line is → Hunts size false old was line is
 hunt_fails size old was line is some opened h = record {
-  came = h.came;
+  further = h.further;
   step = h.step;
   keeps = h.keeps;
   member = record { aligned = λ f. absurd (cc); stays = λ _. h.alignment; count = (let e = ap taken_count h.alignment in omega arith) };
   locks = λ f. absurd (cc);
-  fails = λ _ given taken i w may r.
-      let a = h.at given taken i w may r in
-      let count = length_mfas given in
+  fails = λ _ available read i w may r.
+      let a = h.at available read i w may r in
+      let count = length_mfas available in
       let within = a.read.within in
       record {
         least = a.least;
-        read = same_used given _ (i + size) _ _ line.reader (let e : i + size ≡ min (length (mfas_of given)) (i + size) = omega arith in e)
-            (same_wanted given _ (i + size) _ _ line.reader (wanted_at size (mfas_of given) i size w some) a.read);
+        read = same_used available _ (i + size) _ _ line.reader (let e : i + size ≡ min (length (mfas_of available)) (i + size) = omega arith in e)
+            (same_wanted available _ (i + size) _ _ line.reader (wanted_at size (mfas_of available) i size w some) a.read);
         alignment = h.alignment;
-        ended = h.ended ∙ opened ∙ sym (le-ltb (length (mfas_of given)) (i + size) (omega arith));
-        passes_over = λ before e. h.passes_over before e ∙ ap saturated (let y : before + size ≡ before + min size (length (mfas_of given) - i) = omega arith in y);
+        ended = h.ended ∙ opened ∙ sym (le-ltb (length (mfas_of available)) (i + size) (omega arith));
+        passes_over = λ before e. h.passes_over before e ∙ ap saturated (let y : before + size ≡ before + min size (length (mfas_of available) - i) = omega arith in y);
       };
 }
 

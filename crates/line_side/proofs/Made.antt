@@ -38,8 +38,8 @@ concat_more (first ∷ made) frame = ap (λ xs. first ++ xs) (concat_more made f
 
 live_writes : (answer : Written) (counts : Bool) (old new : OutView) (frame : List ℕ) → old.state ≡ Live → (counts ≡ true → answer ≡ written.Whole) → (counts ≡ false → answer ≡ written.Lost)
     → new.state ≡ state_after_write Live answer → GainedBy answer old frame new → Writes counts old frame new
-live_writes written.Whole true old new frame live counted failed state (went, gained, all) = record {
-  went = went;
+live_writes written.Whole true old new frame live counted failed state (sent, gained, all) = record {
+  written = sent;
   gained = gained;
   whole = λ l _. (refl, all l);
   part = λ _ other. absurd (other state);
@@ -49,7 +49,7 @@ live_writes written.Whole true old new frame live counted failed state (went, ga
 live_writes written.Whole false old new frame live counted failed state by = absurd (let e = failed refl in cc)
 live_writes written.Lost true old new frame live counted failed state by = absurd (let e = counted refl in cc)
 live_writes written.Lost false old new frame live counted failed state (n, less, gained) = record {
-  went = take n frame;
+  written = take n frame;
   gained = gained;
   whole = λ _ l. absurd (dead_not_live (sym state ∙ l));
   part = λ _ _. (refl, (n, less, refl));
@@ -61,7 +61,7 @@ empty_writes : (counts : Bool) (answer : Written) (old new : OutView) (frame : L
     → Writes counts old frame new
 empty_writes false answer old new frame empty same whole failed = absurd (let e = failed refl in cc)
 empty_writes true answer old new frame empty same whole failed = record {
-  went = [];
+  written = [];
   gained = rw same (gained_none old);
   whole = λ l _. absurd (empty_not_live (sym empty ∙ l));
   part = λ l _. absurd (empty_not_live (sym empty ∙ l));
@@ -83,7 +83,7 @@ writes_by answer counts old new frame alive counted failed state live idle = by_
 -- the place is dead
 pub writes_dead : (place : OutView) (frame : List ℕ) → place.state ≡ Dead → Writes false place frame place
 writes_dead place frame dead = record {
-  went = [];
+  written = [];
   gained = gained_none place;
   whole = λ l _. absurd (dead_not_live (sym dead ∙ l));
   part = λ l _. absurd (dead_not_live (sym dead ∙ l));
@@ -125,66 +125,66 @@ still_live was is more gained live = elim gained.state [
 ]
 
 -- what of the bytes that were due, and of a frame more, is gone
-pub record SentMore (due went more frame : List ℕ) (is : OutView) : Type 0 where
+pub record SentMore (due sent more frame : List ℕ) (is : OutView) : Type 0 where
   pub rest : List ℕ
-  pub parts : (went ++ more) ++ rest ≡ due ++ frame
+  pub parts : (sent ++ more) ++ rest ≡ due ++ frame
   pub whole : is.state ≡ Live → rest ≡ []
 
-parts_more : (counts : Bool) (was is : OutView) (due went rest frame : List ℕ) (w : Writes counts was frame is) → (was.state ≡ Live → rest ≡ []) → went ++ rest ≡ due → SentMore due went w.went frame is
-parts_more counts was is due went rest frame w whole parts = by_state was.state is.state refl refl
+parts_more : (counts : Bool) (was is : OutView) (due sent rest frame : List ℕ) (w : Writes counts was frame is) → (was.state ≡ Live → rest ≡ []) → sent ++ rest ≡ due → SentMore due sent w.written frame is
+parts_more counts was is due sent rest frame w whole parts = by_state was.state is.state refl refl
   where
-    all : was.state ≡ Live → went ≡ due
-    all live = sym (append-nil went) ∙ ap (λ r. went ++ r) (sym (whole live)) ∙ parts
+    all : was.state ≡ Live → sent ≡ due
+    all live = sym (append-nil sent) ∙ ap (λ r. sent ++ r) (sym (whole live)) ∙ parts
 
-    idle : was.state ≢ Live → SentMore due went w.went frame is
+    idle : was.state ≢ Live → SentMore due sent w.written frame is
     idle rests = record {
       rest = rest ++ frame;
-      parts = ap (λ xs. (went ++ xs) ++ (rest ++ frame)) (w.gained.idle rests).1 ∙ ap (λ xs. xs ++ (rest ++ frame)) (append-nil went) ∙ sym (append_assoc went rest frame) ∙ ap (λ xs. xs ++ frame) parts;
-      whole = λ live. absurd (rests (still_live was is w.went w.gained live));
+      parts = ap (λ xs. (sent ++ xs) ++ (rest ++ frame)) (w.gained.idle rests).1 ∙ ap (λ xs. xs ++ (rest ++ frame)) (append-nil sent) ∙ sym (append_assoc sent rest frame) ∙ ap (λ xs. xs ++ frame) parts;
+      whole = λ live. absurd (rests (still_live was is w.written w.gained live));
     }
 
-    cut : was.state ≡ Live → is.state ≢ Live → SentMore due went w.went frame is
+    cut : was.state ≡ Live → is.state ≢ Live → SentMore due sent w.written frame is
     cut live dead =
         let (n, less, is_part) = (w.part live dead).1 in record {
           rest = drop n frame;
-          parts = append_assoc went w.went (drop n frame) ∙ ap (λ xs. went ++ (xs ++ drop n frame)) is_part ∙ ap (λ xs. went ++ xs) (take-append-drop n frame) ∙ ap (λ xs. xs ++ frame) (all live);
+          parts = append_assoc sent w.written (drop n frame) ∙ ap (λ xs. sent ++ (xs ++ drop n frame)) is_part ∙ ap (λ xs. sent ++ xs) (take-append-drop n frame) ∙ ap (λ xs. xs ++ frame) (all live);
           whole = λ l. absurd (dead l);
         }
 
-    by_state : (s t : State) → was.state ≡ s → is.state ≡ t → SentMore due went w.went frame is
+    by_state : (s t : State) → was.state ≡ s → is.state ≡ t → SentMore due sent w.written frame is
     by_state Empty t d f = idle (λ l. empty_not_live (sym d ∙ l))
     by_state Dead t d f = idle (λ l. dead_not_live (sym d ∙ l))
     by_state Live Empty d f = cut d (λ l. empty_not_live (sym f ∙ l))
     by_state Live Dead d f = cut d (λ l. dead_not_live (sym f ∙ l))
     by_state Live Live d f = record {
       rest = [];
-      parts = append-nil (went ++ w.went) ∙ ap (λ xs. went ++ xs) (w.whole d f).1 ∙ ap (λ xs. xs ++ frame) (all d);
+      parts = append-nil (sent ++ w.written) ∙ ap (λ xs. sent ++ xs) (w.whole d f).1 ∙ ap (λ xs. xs ++ frame) (all d);
       whole = λ _. refl;
     }
 
 -- how many count
-counts_more : (counts : Bool) (first was is : OutView) (made : List (List ℕ)) (due went frame one_more : List ℕ) (w : Writes counts was frame is) → Gained first went was
-    → length due ≡ 16320 * length made → length frame ≡ 16320 → (was.state ≡ Live → went ≡ due)
-    → counted_frames first.state (made ++ one_more ∷ []) (went ++ w.went) ≡ counted_frames first.state made went + one_if counts
-counts_more counts first was is made due went frame one_more w gained size one whole = by_state first.state was.state is.state refl refl refl
+counts_more : (counts : Bool) (first was is : OutView) (made : List (List ℕ)) (due sent frame one_more : List ℕ) (w : Writes counts was frame is) → Gained first sent was
+    → length due ≡ 16320 * length made → length frame ≡ 16320 → (was.state ≡ Live → sent ≡ due)
+    → counted_frames first.state (made ++ one_more ∷ []) (sent ++ w.written) ≡ counted_frames first.state made sent + one_if counts
+counts_more counts first was is made due sent frame one_more w gained size one whole = by_state first.state was.state is.state refl refl refl
   where
     Counts : Type 0
-    Counts = counted_frames first.state (made ++ one_more ∷ []) (went ++ w.went) ≡ counted_frames first.state made went + one_if counts
+    Counts = counted_frames first.state (made ++ one_more ∷ []) (sent ++ w.written) ≡ counted_frames first.state made sent + one_if counts
 
-    all : length (went ++ w.went) ≡ length went + length w.went
-    all = length-append went w.went
+    all : length (sent ++ w.written) ≡ length sent + length w.written
+    all = length-append sent w.written
 
     idle : (s : State) → first.state ≡ s → s ≢ Empty → was.state ≡ Dead → Counts
     idle Empty e other d = absurd (other refl)
     idle Live e other d = let n = ap length (w.gained.idle (λ l. dead_not_live (sym d ∙ l))).1 in
-        rw (e, w.dead d) (let m : length (went ++ w.went) ≡ length went = omega (arith, all, n) in omega (arith, m))
+        rw (e, w.dead d) (let m : length (sent ++ w.written) ≡ length written = omega (arith, all, n) in omega (arith, m))
     idle Dead e other d = let n = ap length (w.gained.idle (λ l. dead_not_live (sym d ∙ l))).1 in
-        rw (e, w.dead d) (let m : length (went ++ w.went) ≡ length went = omega (arith, all, n) in omega (arith, m))
+        rw (e, w.dead d) (let m : length (sent ++ w.written) ≡ length written = omega (arith, all, n) in omega (arith, m))
 
     cut : first.state ≡ Live → was.state ≡ Live → is.state ≢ Live → Counts
     cut e d f =
         let (n, less, is_part) = (w.part d f).1 in
-        let k : length w.went ≡ n = ap length is_part ∙ length-take-le n frame (omega (arith, less)) in
+        let k : length w.written ≡ n = ap length is_part ∙ length-take-le n frame (omega (arith, less)) in
         let m = ap length (whole d) in
         rw (e, (w.part d f).0) (omega (arith, all, k, m, less, one, size))
 
@@ -246,8 +246,8 @@ made_more n form put first was is puts old new set pathed frame sent counts here
     let due = through_mask form.scrambled (concat h.made) in
     let count = frames_size n [] puts h.made h.are_frames in
     let long : length due ≡ 16320 * length h.made = length_through form.scrambled (concat h.made) ∙ count in
-    let more = parts_more counts was is due h.sent.went h.sent.rest sent w h.sent.whole h.sent.parts in
-    let all : was.state ≡ Live → h.sent.went ≡ due = λ live. sym (append-nil h.sent.went) ∙ ap (λ r. h.sent.went ++ r) (sym (h.sent.whole live)) ∙ h.sent.parts in
+    let more = parts_more counts was is due h.sent.written h.sent.rest sent w h.sent.whole h.sent.parts in
+    let all : was.state ≡ Live → h.sent.written ≡ due = λ live. sym (append-nil h.sent.written) ∙ ap (λ r. h.sent.written ++ r) (sym (h.sent.whole live)) ∙ h.sent.parts in
     record {
       is_form = kept ∙ h.is_form;
       made = h.made ++ frame ∷ [];
@@ -261,14 +261,14 @@ made_more n form put first was is puts old new set pathed frame sent counts here
             ∙ ap (λ bytes. psi_byte_at put.ports put.mfas row col (get_or bytes (place_of 4080 row col) 0)) (sym here)));
       });
       sent = record {
-        went = h.sent.went ++ w.went;
+        written = h.sent.written ++ w.written;
         rest = more.rest;
         parts = more.parts ∙ ap (λ xs. due ++ xs) scrambled ∙ sym (file_more form.scrambled h.made frame count);
-        gained = gained_twice first was is h.sent.went w.went h.sent.gained w.gained;
+        gained = gained_twice first was is h.sent.written w.written h.sent.gained w.gained;
         whole = more.whole;
       };
-      frames = frames ∙ ap (λ k. saturated (k + one_if counts)) h.frames ∙ stopped_more (counted_frames first.state h.made h.sent.went) (one_if counts)
-          ∙ sym (ap saturated (counts_more counts first was is h.made due h.sent.went sent frame w h.sent.gained long sized all));
+      frames = frames ∙ ap (λ k. saturated (k + one_if counts)) h.frames ∙ stopped_more (counted_frames first.state h.made h.sent.written) (one_if counts)
+          ∙ sym (ap saturated (counts_more counts first was is h.made due h.sent.written sent frame w h.sent.gained long sized all));
       sapi = sapi ∙ h.sapi;
       section = section_sent h.made h.section;
       path = sent_as 4080 h.made pathed frame new.path same (path_sent h.made h.path);
@@ -291,7 +291,7 @@ new_made n kind scrambled mask first line form same sapi section path frames = r
   is_form = form ∙ (let of_mask : Bool → LineForm = λ s. record { kind = kind; scrambled = s } in ap of_mask same);
   made = [];
   are_frames = tt;
-  sent = record { went = []; rest = []; parts = nothing scrambled; gained = gained_none first; whole = λ _. refl };
+  sent = record { written = []; rest = []; parts = nothing scrambled; gained = gained_none first; whole = λ _. refl };
   frames = frames ∙ none_count first.state;
   sapi = sapi;
   section = section;

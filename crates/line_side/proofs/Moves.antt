@@ -27,32 +27,32 @@ joined m pieces (Some a) h = (refl, simp length-append refl)
 
 pub takes_none : (old : LineView) (was is : InView) (r : ReaderView) → Advances false old.reader was r is → TakesNext false old was (record old { reader = r; ended = true }) is
 takes_none old was is r a = record {
-  came = a.came;
+  further = a.further;
   step = a.step;
   keeps = record { kind = refl; pieces = refl; lost = refl };
   member = stays _ _ refl;
   lead_in = refl;
   over = λ _. refl;
   frame = λ t. absurd (cc);
-  none = λ _ given taken u w may h. let x = (a.line given taken u w may h).none refl in
+  none = λ _ available read u w may h. let x = (a.line available read u w may h).none refl in
       record { read = x.0; end = x.1; alignment = refl; ended = refl };
 }
 
 pub takes_frame : (old : LineView) (was is : InView) (r : ReaderView) (m pieces : ℕ) → IsSomeAnd old.alignment (λ a. length a.taken < pieces) → Advances true old.reader was r is → m ≡ frame_mfas r.hand
     → TakesNext true old was (record old { reader = r; alignment = option_map (with_frame m) old.alignment }) is
 takes_frame old was is r m pieces room a e = record {
-  came = a.came;
+  further = a.further;
   step = a.step;
   keeps = record { kind = refl; pieces = refl; lost = refl };
   member = (let x = joined m pieces old.alignment room in record { aligned = λ _. x.0; stays = λ f. absurd (cc); count = x.1 });
   lead_in = refl;
   over = λ f. absurd (cc);
-  frame = λ _ given taken u w may h. let x = (a.line given taken u w may h).frame refl in
+  frame = λ _ available read u w may h. let x = (a.line available read u w may h).frame refl in
       record {
         read = x.0;
         there = x.1;
         hand = x.2;
-        alignment = ap (λ k. option_map (with_frame k) old.alignment) (e ∙ ap frame_mfas x.2 ∙ sym (index_mfas given u x.1));
+        alignment = ap (λ k. option_map (with_frame k) old.alignment) (e ∙ ap frame_mfas x.2 ∙ sym (index_mfas available u x.1));
         ended = refl;
       };
   none = λ f. absurd (cc);
@@ -67,7 +67,7 @@ one_passed lead before e = omega arith
 
 pub tries_ends : (size : ℕ) (old : LineView) (was is : InView) (r : ReaderView) → Advances false old.reader was r is → Tries size Ends old was (record old { reader = r; ended = true }) is
 tries_ends size old was is r a = record {
-  came = a.came;
+  further = a.further;
   step = a.step;
   keeps = record { kind = refl; pieces = refl; lost = refl };
   member = stays _ _ refl;
@@ -75,7 +75,7 @@ tries_ends size old was is r a = record {
   passed = λ t. absurd (cc);
   locks = λ t. absurd (cc);
   passes = λ t. absurd (cc);
-  ends = λ _ given taken u w may h. let x = (a.line given taken u w may h).none refl in
+  ends = λ _ available read u w may h. let x = (a.line available read u w may h).none refl in
       record { read = x.0; end = x.1; alignment = refl; ended = refl };
 }
 
@@ -85,18 +85,18 @@ twice_wanted w u x = omega arith
 pub tries_passes : (size : ℕ) (old : LineView) (was mid is : InView) (r s : ReaderView) → Advances true old.reader was r mid → Begins size false r mid s is
     → Tries size Passes old was (record old { reader = s; lead_in = min (old.lead_in + 1) (2 ^ 64 - 1) }) is
 tries_passes size old was mid is r s a b = record {
-  came = a.came ++ b.came;
-  step = step_twice old.reader r s was mid is a.came b.came a.step b.step;
+  further = a.further ++ b.further;
+  step = step_twice old.reader r s was mid is a.further b.further a.step b.step;
   keeps = record { kind = refl; pieces = refl; lost = refl };
   member = stays _ _ refl;
   passes_over = one_passed old.lead_in;
   passed = λ _. (refl, refl);
   locks = λ t. absurd (cc);
-  passes = λ _ given taken u w may h.
-      let x = (a.line given taken u w (may_first r s mid is a.came b.came taken given b.step may) h).frame refl in
-      let y = b.line given (taken ++ a.came) (u + 1) (max w (u + 1)) (may_second s a.came b.came taken given may) x.0 u refl x.2 in
+  passes = λ _ available read u w may h.
+      let x = (a.line available read u w (may_first r s mid is a.further b.further read available b.step may) h).frame refl in
+      let y = b.line available (read ++ a.further) (u + 1) (max w (u + 1)) (may_second s a.further b.further read available may) x.0 u refl x.2 in
       record {
-        read = rw (← append_assoc taken a.came b.came) (same_wanted given _ (u + 1) _ _ s (twice_wanted w u (one_if (looked_ahead size (mfas_of given) u))) y.read);
+        read = rw (← append_assoc read a.further b.further) (same_wanted available _ (u + 1) _ _ s (twice_wanted w u (one_if (looked_ahead size (mfas_of available) u))) y.read);
         start = y.start;
       };
   ends = λ t. absurd (cc);
@@ -121,22 +121,22 @@ start_looked size ms u e =
 pub tries_locks : (size : ℕ) (old : LineView) (was mid is : InView) (r s : ReaderView) (m : ℕ) → old.alignment ≡ None → Advances true old.reader was r mid → Begins size true r mid s is → m ≡ frame_mfas s.hand
     → Tries size Locks old was (record old { reader = s; alignment = Some (with_frame m (aligned_at m)) }) is
 tries_locks size old was mid is r s m none a b e = record {
-  came = a.came ++ b.came;
-  step = step_twice old.reader r s was mid is a.came b.came a.step b.step;
+  further = a.further ++ b.further;
+  step = step_twice old.reader r s was mid is a.further b.further a.step b.step;
   keeps = record { kind = refl; pieces = refl; lost = refl };
   member = record { aligned = λ _. refl; stays = λ f. absurd (cc); count = (let e = ap taken_count none in omega arith) };
   passes_over = none_passed old.lead_in;
   passed = λ t. absurd (cc);
-  locks = λ _ given taken u w may h.
-      let x = (a.line given taken u w (may_first r s mid is a.came b.came taken given b.step may) h).frame refl in
-      let y = b.line given (taken ++ a.came) (u + 1) (max w (u + 1)) (may_second s a.came b.came taken given may) x.0 u refl x.2 in
-      let hand : s.hand ≡ frame_at given u = b.hand ∙ x.2 in
-      let looked : one_if (looked_ahead size (mfas_of given) u) ≡ 1 = ap one_if (start_looked size (mfas_of given) u y.start).1 in
+  locks = λ _ available read u w may h.
+      let x = (a.line available read u w (may_first r s mid is a.further b.further read available b.step may) h).frame refl in
+      let y = b.line available (read ++ a.further) (u + 1) (max w (u + 1)) (may_second s a.further b.further read available may) x.0 u refl x.2 in
+      let hand : s.hand ≡ frame_at available u = b.hand ∙ x.2 in
+      let looked : one_if (looked_ahead size (mfas_of available) u) ≡ 1 = ap one_if (start_looked size (mfas_of available) u y.start).1 in
       record {
-        read = rw (← append_assoc taken a.came b.came) (same_wanted given _ (u + 1) _ _ s (twice_wanted w u (one_if (looked_ahead size (mfas_of given) u)) ∙ ap (λ k. max w (u + 1 + k)) looked) y.read);
+        read = rw (← append_assoc read a.further b.further) (same_wanted available _ (u + 1) _ _ s (twice_wanted w u (one_if (looked_ahead size (mfas_of available) u)) ∙ ap (λ k. max w (u + 1 + k)) looked) y.read);
         start = y.start;
         hand = hand;
-        alignment = ap (λ k. Some (with_frame k (aligned_at k))) (e ∙ ap frame_mfas hand ∙ sym (index_mfas given u x.1));
+        alignment = ap (λ k. Some (with_frame k (aligned_at k))) (e ∙ ap frame_mfas hand ∙ sym (index_mfas available u x.1));
         ended = refl;
       };
   passes = λ t. absurd (cc);

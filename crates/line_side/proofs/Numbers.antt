@@ -27,13 +27,13 @@ same_numbers a b frames lead_in lost rest fas sm pm =
     ∙ ap (λ x. of b.frames b.lead_in b.lost b.rest b.fas x a.pm) sm
     ∙ ap (λ x. of b.frames b.lead_in b.lost b.rest b.fas b.sm x) pm
 
-pub numbers_are : (form : LineForm) (first now : InView) (taken given : List ℕ) (t : ℕ) (line : LineView) (told : LineCounts) → told.frames ≡ line.reader.frames → told.lead_in ≡ line.lead_in → told.lost ≡ line.lost
+pub numbers_are : (form : LineForm) (first now : InView) (read available : List ℕ) (t : ℕ) (line : LineView) (told : LineCounts) → told.frames ≡ line.reader.frames → told.lead_in ≡ line.lead_in → told.lost ≡ line.lost
     → told.rest ≡ line.reader.rest
     → ((frames : List (List ℕ)) → HasCounted frames line.reader.seen → told.fas ≡ saturated (wrong_fas frames))
     → ((frames : List (List ℕ)) → HasCounted frames line.reader.seen → told.sm ≡ saturated (wrong_parities LINE_COLUMNS SECTION_ROW SM_BIP8_COLUMN frames))
     → ((frames : List (List ℕ)) → HasCounted frames line.reader.seen → told.pm ≡ saturated (wrong_parities LINE_COLUMNS PM_ROW PM_BIP8_COLUMN frames))
-    → LineStands form first now taken t line → MayBe form.scrambled line.reader.ending taken given → told ≡ numbers_of form line.reader.ending given t line.pieces
-numbers_are form first now taken given t line told frames lead_in lost rest fas sm pm h may =
-    let is = h.is_line given may in
-    same_numbers told (numbers_of form line.reader.ending given t line.pieces)
+    → LineStands form first now read t line → MayBe form.scrambled line.reader.ending read available → told ≡ numbers_of form line.reader.ending available t line.pieces
+numbers_are form first now read available t line told frames lead_in lost rest fas sm pm h may =
+    let is = h.is_line available may in
+    same_numbers told (numbers_of form line.reader.ending available t line.pieces)
     (frames ∙ is.read.frames) (lead_in ∙ is.lead_in) (lost ∙ is.lost) (rest ∙ is.read.rest) (fas _ is.read.seen) (sm _ is.read.seen) (pm _ is.read.seen)

@@ -17,17 +17,17 @@ use Rattle.line_side.proofs.Giving.{dead_not_live, empty_not_live}
 
 -- what the answer of a read into a frame says, before the place is looked at
 pub record FrameCame (reading : Reading) (was : InView) (frame : List ℕ) (is : InView) : Type 0 where
-  pub came : List ℕ
-  pub gave : Gave was came is
-  pub whole : reading ≡ Full → (came ≡ frame) × (length came ≡ 16320) × (is.state ≢ Dead)
-  pub short : reading ≢ Full → (length came < 16320) × (is.state ≡ Live → HasEnded is.left is.ended)
-  pub end : (k : ℕ) → reading ≡ End k → k ≡ length came
+  pub further : List ℕ
+  pub gave : Gave was further is
+  pub whole : reading ≡ Full → (further ≡ frame) × (length further ≡ 16320) × (is.state ≢ Dead)
+  pub short : reading ≢ Full → (length further < 16320) × (is.state ≡ Live → HasEnded is.left is.ended)
+  pub end : (k : ℕ) → reading ≡ End k → k ≡ length further
   pub unended : ((k : ℕ) → reading ≢ End k) → is.ended ≡ was.ended
   pub died : is.state ≡ Dead → is.ended ≡ was.ended
 
 live_came : (reading : Reading) (was is : InView) (into : List ℕ) → length into ≡ 16320 → was.state ≡ Live → is.state ≡ state_after Live reading → Reads reading was into is → GaveBy reading was into is → FrameCame reading was into is
 live_came Full was is into len live state reads gave = record {
-  came = into;
+  further = into;
   gave = gave;
   whole = λ _. (refl, len, λ dead. dead_not_live (sym dead ∙ state));
   short = λ other. absurd (other refl);
@@ -38,7 +38,7 @@ live_came Full was is into len live state reads gave = record {
 live_came (End n) was is into len live state reads gave =
     let size : length (take n into) ≡ n = length-take-le n into (let b = reads.0 in omega arith) in
     record {
-      came = take n into;
+      further = take n into;
       gave = gave;
       whole = λ e. absurd (cc);
       short = λ _. (let b = reads.0 in omega arith, λ _. reads.2);
@@ -49,7 +49,7 @@ live_came (End n) was is into len live state reads gave =
 live_came Lost was is into len live state reads (n, less, gave) =
     let size : length (take n into) ≡ n = length-take-le n into (omega arith) in
     record {
-      came = take n into;
+      further = take n into;
       gave = gave;
       whole = λ e. absurd (cc);
       short = λ _. (omega arith, λ now. absurd (dead_not_live (sym state ∙ now)));
@@ -60,7 +60,7 @@ live_came Lost was is into len live state reads (n, less, gave) =
 
 idle_came : (reading : Reading) (was is : InView) (into : List ℕ) → was.state ≢ Live → is ≡ was → reading ≡ End 0 → GaveBy (End 0) was into is → FrameCame reading was into is
 idle_came reading was is into idle same answer gave = record {
-  came = [];
+  further = [];
   gave = gave;
   whole = λ e. absurd (cc);
   short = λ _. (omega arith, λ live. absurd (idle (sym (ap (λ place. place.state) same) ∙ live)));
@@ -87,7 +87,7 @@ frame_came reading was is into len state live idle = by_state was.state refl
 -- the place is not dead
 pub frame_alive : (reading : Reading) (was is : InView) (into : List ℕ) → is.state ≢ Dead → FrameCame reading was into is → (reading ≡ Lost → is.state ≡ Dead) → FrameRead false reading was into is
 frame_alive reading was is into alive h lost = record {
-  came = h.came;
+  further = h.further;
   gave = h.gave;
   whole = λ e. let w = h.whole e in (sym w.0, w.1);
   short = h.short;
@@ -99,7 +99,7 @@ frame_alive reading was is into alive h lost = record {
 -- the place is dead
 pub frame_dead : (reading : Reading) (was is : InView) (into : List ℕ) → is.state ≡ Dead → FrameCame reading was into is → FrameRead false Lost was into is
 frame_dead reading was is into dead h = record {
-  came = h.came;
+  further = h.further;
   gave = h.gave;
   whole = λ e. absurd (cc);
   short = λ _. h.short (λ full. (h.whole full).2 dead);

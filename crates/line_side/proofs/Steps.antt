@@ -20,18 +20,18 @@ stopped_twice : (u f : ℕ) → f ≡ saturated u → min (f + 1) (2 ^ 64 - 1) �
 stopped_twice u f e = omega arith
 
 -- one frame more was counted
-one_more : (given frame : List ℕ) (u : ℕ) (old new : Counted) → frame ≡ frame_at given u → CountsOn old frame new → HasCounted (first_frames given u) old → HasCounted (first_frames given (u + 1)) new
+one_more : (available frame : List ℕ) (u : ℕ) (old new : Counted) → frame ≡ frame_at available u → CountsOn old frame new → HasCounted (first_frames available u) old → HasCounted (first_frames available (u + 1)) new
 unfolding first_frames
-one_more given frame u old new here sees h =
-    let P : List ℕ → Type 0 = λ f. HasCounted (first_frames given u ++ f ∷ []) new in
-    let Q : ℕ → Type 0 = λ n. HasCounted (first_frames given n) new in
-    subst Q (let e : suc u ≡ u + 1 = omega arith in e) (subst P here (sees (first_frames given u) h))
+one_more available frame u old new here sees h =
+    let P : List ℕ → Type 0 = λ f. HasCounted (first_frames available u ++ f ∷ []) new in
+    let Q : ℕ → Type 0 = λ n. HasCounted (first_frames available n) new in
+    subst Q (let e : suc u ≡ u + 1 = omega arith in e) (subst P here (sees (first_frames available u) h))
 
 -- nothing was taken, and the frame that was looked ahead at is in hand
-took_ahead : (given frame : List ℕ) (n u w : ℕ) (old : ReaderView) (seen : Counted) → old.ahead ≡ Some frame → CountsOn old.seen frame seen → HasRead given n u w old → Advanced given n u (max w (u + 1)) true (taking (Some frame) seen old)
-took_ahead given frame n u w old seen e sees h =
+took_ahead : (available frame : List ℕ) (n u w : ℕ) (old : ReaderView) (seen : Counted) → old.ahead ≡ Some frame → CountsOn old.seen frame seen → HasRead available n u w old → Advanced available n u (max w (u + 1)) true (taking (Some frame) seen old)
+took_ahead available frame n u w old seen e sees h =
     let one : count_of old.ahead ≡ 1 = ap count_of e in
-    let here : frame ≡ frame_at given u = (let P : Option (List ℕ) → Type 0 = λ a. IfSome a (λ frame. frame ≡ frame_at given u) in subst P e h.ahead) in
+    let here : frame ≡ frame_at available u = (let P : Option (List ℕ) → Type 0 = λ a. IfSome a (λ frame. frame ≡ frame_at available u) in subst P e h.ahead) in
     let within = h.within in
     record {
       frame = λ _. (
@@ -42,7 +42,7 @@ took_ahead given frame n u w old seen e sees h =
           over = λ closed. (let o = h.over closed in (omega arith, o.1, omega arith));
           frames = stopped_twice u old.frames h.frames;
           rest = h.rest;
-          seen = one_more given frame u old.seen seen here sees h.seen;
+          seen = one_more available frame u old.seen seen here sees h.seen;
         },
         omega arith,
         here,
@@ -51,48 +51,48 @@ took_ahead given frame n u w old seen e sees h =
     }
 
 -- the bytes have ended, and nothing was looked ahead at
-ended_already : (given : List ℕ) (n u w : ℕ) (old : ReaderView) → old.ahead ≡ None → old.ending ≢ Open → HasRead given n u w old → HasRead given n u (max w (u + 1)) old × (u ≡ whole_frames given)
-ended_already given n u w old e closed h =
+ended_already : (available : List ℕ) (n u w : ℕ) (old : ReaderView) → old.ahead ≡ None → old.ending ≢ Open → HasRead available n u w old → HasRead available n u (max w (u + 1)) old × (u ≡ whole_frames available)
+ended_already available n u w old e closed h =
     let zero : count_of old.ahead ≡ 0 = ap count_of e in
     let o = h.over closed in
     (record { within = h.within; ahead = h.ahead; still = λ opened. absurd (closed opened); over = λ _. (o.0, o.1, omega arith); frames = h.frames; rest = h.rest; seen = h.seen }, omega arith)
 
 -- a read gave no whole frame
-short_read : (s : Bool) (taken came rest : List ℕ) (u w : ℕ) (old new : ReaderView) → HasRead (through_mask s (taken ++ (came ++ rest))) (length taken) u w old
-    → old.ahead ≡ None → old.ending ≡ Open → length came < 16320 → rest ≡ []
-    → new.ahead ≡ None → new.ending ≢ Open → new.frames ≡ old.frames → new.rest ≡ rest_of new.ending (through_mask s (taken ++ (came ++ rest))) → new.seen ≡ old.seen
-    → HasRead (through_mask s (taken ++ (came ++ rest))) (length (taken ++ came)) u (max w (u + 1)) new × (u ≡ whole_frames (through_mask s (taken ++ (came ++ rest))))
-short_read s taken came rest u w old new h e opened less none f closed frames left seen =
+short_read : (s : Bool) (read further rest : List ℕ) (u w : ℕ) (old new : ReaderView) → HasRead (through_mask s (read ++ (further ++ rest))) (length read) u w old
+    → old.ahead ≡ None → old.ending ≡ Open → length further < 16320 → rest ≡ []
+    → new.ahead ≡ None → new.ending ≢ Open → new.frames ≡ old.frames → new.rest ≡ rest_of new.ending (through_mask s (read ++ (further ++ rest))) → new.seen ≡ old.seen
+    → HasRead (through_mask s (read ++ (further ++ rest))) (length (read ++ further)) u (max w (u + 1)) new × (u ≡ whole_frames (through_mask s (read ++ (further ++ rest))))
+short_read s read further rest u w old new h e opened less none f closed frames left seen =
     let zero : count_of old.ahead ≡ 0 = ap count_of e in
     let zero' : count_of new.ahead ≡ 0 = ap count_of f in
     let still = h.still opened in
-    let here = short_here s taken came rest u (omega arith) less none in (
+    let here = short_here s read further rest u (omega arith) less none in (
       record {
         within = omega (arith, here.0);
-        ahead = (let P : Option (List ℕ) → Type 0 = λ a. IfSome a (λ frame. frame ≡ frame_at (through_mask s (taken ++ (came ++ rest))) u) in subst P (sym f) tt);
+        ahead = (let P : Option (List ℕ) → Type 0 = λ a. IfSome a (λ frame. frame ≡ frame_at (through_mask s (read ++ (further ++ rest))) u) in subst P (sym f) tt);
         still = λ o. absurd (closed o);
         over = λ _. (omega (arith, here.0), here.1, omega (arith, here.0));
         frames = frames ∙ h.frames;
         rest = left;
-        seen = (let P : Counted → Type 0 = λ c. HasCounted (first_frames (through_mask s (taken ++ (came ++ rest))) u) c in subst P (sym seen) h.seen);
+        seen = (let P : Counted → Type 0 = λ c. HasCounted (first_frames (through_mask s (read ++ (further ++ rest))) u) c in subst P (sym seen) h.seen);
       },
       here.0,
     )
 
 -- how the bytes ended where no whole frame came
-rest_after : (reading : Reading) (given came : List ℕ) (r : ReaderView) → r.rest ≡ 0 → reading ≢ Full → ((k : ℕ) → reading ≡ End k → k ≡ length came) → length given % 16320 ≡ length came
-    → (with_reading reading r).rest ≡ rest_of (with_reading reading r).ending given
-rest_after Full given came r zero other end e = absurd (other refl)
-rest_after (End k) given came r zero other end e = end k refl ∙ sym e
-rest_after Lost given came r zero other end e = zero
+rest_after : (reading : Reading) (available further : List ℕ) (r : ReaderView) → r.rest ≡ 0 → reading ≢ Full → ((k : ℕ) → reading ≡ End k → k ≡ length further) → length available % 16320 ≡ length further
+    → (with_reading reading r).rest ≡ rest_of (with_reading reading r).ending available
+rest_after Full available further r zero other end e = absurd (other refl)
+rest_after (End k) available further r zero other end e = end k refl ∙ sym e
+rest_after Lost available further r zero other end e = zero
 
 with_reading_ahead : (reading : Reading) (r : ReaderView) → ((with_reading reading r).ahead ≡ r.ahead) × ((with_reading reading r).frames ≡ r.frames) × ((with_reading reading r).hand ≡ r.hand) × ((with_reading reading r).seen ≡ r.seen)
 with_reading_ahead Full r = (refl, refl, refl, refl)
 with_reading_ahead (End k) r = (refl, refl, refl, refl)
 with_reading_ahead Lost r = (refl, refl, refl, refl)
 
-pub closed_rest : (given : List ℕ) (n u w : ℕ) (r : ReaderView) → r.ending ≡ Open → HasRead given n u w r → r.rest ≡ 0
-closed_rest given n u w r opened h = h.rest ∙ ap (λ e. rest_of e given) opened
+pub closed_rest : (available : List ℕ) (n u w : ℕ) (r : ReaderView) → r.ending ≡ Open → HasRead available n u w r → r.rest ≡ 0
+closed_rest available n u w r opened h = h.rest ∙ ap (λ e. rest_of e available) opened
 
 -- the bytes have ended where no whole frame came
 closed_after : (reading : Reading) (ending : Ending) → reading ≢ Full → ending_after reading ending ≢ Open
@@ -109,7 +109,7 @@ ended_open : (ending : Ending) (is : InView) → ending ≡ Open → EndedAs end
 ended_open ending is opened = record { died = λ d. absurd (cc); seen = λ e. absurd (cc) }
 
 short_step : (reading : Reading) (old new : ReaderView) (was is : InView) (frame : List ℕ) → old.ending ≡ Open → reading ≢ Full → new.scrambled ≡ old.scrambled → new.ending ≡ ending_after reading old.ending
-    → (f : FrameRead old.scrambled reading was frame is) → ReadStep old was f.came new is
+    → (f : FrameRead old.scrambled reading was frame is) → ReadStep old was f.further new is
 short_step reading old new was is frame opened other same after f = record {
   scrambled = same;
   gave = f.gave;
@@ -120,7 +120,7 @@ short_step reading old new was is frame opened other same after f = record {
 }
 
 whole_step : (reading : Reading) (old new : ReaderView) (was is : InView) (frame : List ℕ) → reading ≡ Full → old.ending ≡ Open → new.scrambled ≡ old.scrambled → new.ending ≡ old.ending
-    → (f : FrameRead old.scrambled reading was frame is) → ReadStep old was f.came new is
+    → (f : FrameRead old.scrambled reading was frame is) → ReadStep old was f.further new is
 whole_step reading old new was is frame full opened same kept f = record {
   scrambled = same;
   gave = f.gave;
@@ -134,64 +134,64 @@ whole_step reading old new was is frame full opened same kept f = record {
 
 pub advance_ahead : (old : ReaderView) (was : InView) (frame : List ℕ) (seen : Counted) → old.ahead ≡ Some frame → IfSome old.ahead (λ frame. CountsOn old.seen frame seen) → Advances true old was (with_ahead seen old) was
 advance_ahead old was frame seen e sees = rw (ap (λ a. taking a seen old) e) (record {
-  came = [];
+  further = [];
   step = step_kept old (taking (Some frame) seen old) was refl refl;
   alone = refl;
-  line = λ given taken u w may h.
-      let P : List ℕ → Type 0 = λ g. HasRead g (length taken) u w old → Advanced g (length (taken ++ [])) u (max w (u + 1)) true (taking (Some frame) seen old) in
+  line = λ available read u w may h.
+      let P : List ℕ → Type 0 = λ g. HasRead g (length read) u w old → Advanced g (length (read ++ [])) u (max w (u + 1)) true (taking (Some frame) seen old) in
       let A : Option (List ℕ) → Type 0 = λ a. IfSome a (λ frame. CountsOn old.seen frame seen) in
-      subst P (sym (may.parts ∙ ap (through_mask old.scrambled) (append_assoc taken [] may.rest))) (λ h. rw (append-nil taken) (took_ahead (through_mask old.scrambled (taken ++ may.rest)) frame (length taken) u w old seen e (subst A e sees) h)) h;
+      subst P (sym (may.parts ∙ ap (through_mask old.scrambled) (append_assoc read [] may.rest))) (λ h. rw (append-nil read) (took_ahead (through_mask old.scrambled (read ++ may.rest)) frame (length read) u w old seen e (subst A e sees) h)) h;
 })
 
 pub advance_over : (old : ReaderView) (was : InView) → old.ahead ≡ None → old.ending ≢ Open → Advances false old was old was
 advance_over old was e closed = record {
-  came = [];
+  further = [];
   step = step_none old was;
   alone = e;
-  line = λ given taken u w may h.
-      let P : List ℕ → Type 0 = λ g. HasRead g (length taken) u w old → Advanced g (length (taken ++ [])) u (max w (u + 1)) false old in
-      subst P (sym (may.parts ∙ ap (through_mask old.scrambled) (append_assoc taken [] may.rest))) (λ h. rw (append-nil taken) (let o = ended_already (through_mask old.scrambled (taken ++ may.rest)) (length taken) u w old e closed h in
+  line = λ available read u w may h.
+      let P : List ℕ → Type 0 = λ g. HasRead g (length read) u w old → Advanced g (length (read ++ [])) u (max w (u + 1)) false old in
+      subst P (sym (may.parts ∙ ap (through_mask old.scrambled) (append_assoc read [] may.rest))) (λ h. rw (append-nil read) (let o = ended_already (through_mask old.scrambled (read ++ may.rest)) (length read) u w old e closed h in
       record { frame = λ t. absurd (cc); none = λ _. (o.0, o.1, closed) })) h;
 }
 
 pub advance_short : (reading : Reading) (old : ReaderView) (was is : InView) (frame : List ℕ) (new : ReaderView) → old.ahead ≡ None → old.ending ≡ Open → reading ≢ Full → FrameRead old.scrambled reading was frame is
     → new ≡ with_reading reading (record old { hand = frame }) → Advances false old was new is
 advance_short reading old was is frame new e opened other f same = let closed = closed_after reading old.ending other in rw same (record {
-  came = f.came;
+  further = f.further;
   step = short_step reading old (with_reading reading (record old { hand = frame })) was is frame opened other refl refl f;
   alone = (with_reading_ahead reading (record old { hand = frame })).0 ∙ e;
-  line = λ given taken u w may h.
-      let P : List ℕ → Type 0 = λ g. HasRead g (length taken) u w old → Advanced g (length (taken ++ f.came)) u (max w (u + 1)) false (with_reading reading (record old { hand = frame })) in
-      subst P (sym (may.parts ∙ ap (through_mask old.scrambled) (append_assoc taken f.came may.rest))) (λ h.
+  line = λ available read u w may h.
+      let P : List ℕ → Type 0 = λ g. HasRead g (length read) u w old → Advanced g (length (read ++ f.further)) u (max w (u + 1)) false (with_reading reading (record old { hand = frame })) in
+      subst P (sym (may.parts ∙ ap (through_mask old.scrambled) (append_assoc read f.further may.rest))) (λ h.
       let short = f.short other in
       let none = may.over closed in
-      let zero = closed_rest (through_mask old.scrambled (taken ++ (f.came ++ may.rest))) (length taken) u w old opened h in
+      let zero = closed_rest (through_mask old.scrambled (read ++ (f.further ++ may.rest))) (length read) u w old opened h in
       let size = h.still opened in
       let zero' : count_of old.ahead ≡ 0 = ap count_of e in
-      let here = short_here old.scrambled taken f.came may.rest u (omega arith) short.0 none in
+      let here = short_here old.scrambled read f.further may.rest u (omega arith) short.0 none in
       let r = record old { hand = frame } in
       let kept = with_reading_ahead reading r in
-      let after = rest_after reading (through_mask old.scrambled (taken ++ (f.came ++ may.rest))) f.came r zero other (λ k q. (f.end k q).0) here.2 in
-      let read = short_read old.scrambled taken f.came may.rest u w old (with_reading reading r) h e opened short.0 none (kept.0 ∙ e) closed kept.1 after kept.3 in
-      record { frame = λ t. absurd (cc); none = λ _. (read.0, read.1, closed) }) h;
+      let after = rest_after reading (through_mask old.scrambled (read ++ (f.further ++ may.rest))) f.further r zero other (λ k q. (f.end k q).0) here.2 in
+      let none_more = short_read old.scrambled read f.further may.rest u w old (with_reading reading r) h e opened short.0 none (kept.0 ∙ e) closed kept.1 after kept.3 in
+      record { frame = λ t. absurd (cc); none = λ _. (none_more.0, none_more.1, closed) }) h;
 })
 
 pub advance_whole : (reading : Reading) (old : ReaderView) (was is : InView) (frame : List ℕ) (new : ReaderView) (seen : Counted) → CountsOn old.seen frame seen → old.ahead ≡ None → old.ending ≡ Open → reading ≡ Full → FrameRead old.scrambled reading was frame is
     → new ≡ record { scrambled = old.scrambled; hand = frame; ahead = None; ending = old.ending; frames = saturated (old.frames + 1); rest = old.rest; seen = seen } → Advances true old was new is
 advance_whole reading old was is frame new seen sees e opened full f same = rw same (record {
-  came = f.came;
+  further = f.further;
   step = whole_step reading old (record { scrambled = old.scrambled; hand = frame; ahead = None; ending = old.ending; frames = saturated (old.frames + 1); rest = old.rest; seen = seen }) was is frame full opened refl refl f;
   alone = refl;
-  line = λ given taken u w may h.
-      let P : List ℕ → Type 0 = λ g. HasRead g (length taken) u w old → Advanced g (length (taken ++ f.came)) u (max w (u + 1)) true (record { scrambled = old.scrambled; hand = frame; ahead = None; ending = old.ending; frames = saturated (old.frames + 1); rest = old.rest; seen = seen }) in
-      subst P (sym (may.parts ∙ ap (through_mask old.scrambled) (append_assoc taken f.came may.rest))) (λ h.
+  line = λ available read u w may h.
+      let P : List ℕ → Type 0 = λ g. HasRead g (length read) u w old → Advanced g (length (read ++ f.further)) u (max w (u + 1)) true (record { scrambled = old.scrambled; hand = frame; ahead = None; ending = old.ending; frames = saturated (old.frames + 1); rest = old.rest; seen = seen }) in
+      subst P (sym (may.parts ∙ ap (through_mask old.scrambled) (append_assoc read f.further may.rest))) (λ h.
       let whole = f.whole full in
       let size = h.still opened in
       let zero : count_of old.ahead ≡ 0 = ap count_of e in
-      let n : length taken ≡ 16320 * u = omega arith in
-      let here = frame_here old.scrambled taken f.came may.rest u n whole.1 in
-      let there = whole_here old.scrambled taken f.came may.rest u n whole.1 in
-      let m = length-append taken f.came in
+      let n : length read ≡ 16320 * u = omega arith in
+      let here = frame_here old.scrambled read f.further may.rest u n whole.1 in
+      let there = whole_here old.scrambled read f.further may.rest u n whole.1 in
+      let m = length-append read f.further in
       record {
         frame = λ _. (
           record {
@@ -201,7 +201,7 @@ advance_whole reading old was is frame new seen sees e opened full f same = rw s
             over = λ closed. absurd (closed opened);
             frames = stopped_twice u old.frames h.frames;
             rest = h.rest;
-            seen = one_more (through_mask old.scrambled (taken ++ (f.came ++ may.rest))) frame u old.seen seen (whole.0 ∙ sym here) sees h.seen;
+            seen = one_more (through_mask old.scrambled (read ++ (f.further ++ may.rest))) frame u old.seen seen (whole.0 ∙ sym here) sees h.seen;
           },
           there,
           whole.0 ∙ sym here,
@@ -212,52 +212,52 @@ advance_whole reading old was is frame new seen sees e opened full f same = rw s
 
 pub look_over : (old : ReaderView) (was : InView) → old.ahead ≡ None → old.ending ≢ Open → LooksAhead false old was old was
 look_over old was e closed = record {
-  came = [];
+  further = [];
   step = step_none old was;
   hand = refl;
-  line = λ given taken u w may h.
-      let P : List ℕ → Type 0 = λ g. HasRead g (length taken) u w old → LookedAhead g (length (taken ++ [])) u (max w (u + 1)) false old in
-      subst P (sym (may.parts ∙ ap (through_mask old.scrambled) (append_assoc taken [] may.rest))) (λ h. rw (append-nil taken) (let o = ended_already (through_mask old.scrambled (taken ++ may.rest)) (length taken) u w old e closed h in
+  line = λ available read u w may h.
+      let P : List ℕ → Type 0 = λ g. HasRead g (length read) u w old → LookedAhead g (length (read ++ [])) u (max w (u + 1)) false old in
+      subst P (sym (may.parts ∙ ap (through_mask old.scrambled) (append_assoc read [] may.rest))) (λ h. rw (append-nil read) (let o = ended_already (through_mask old.scrambled (read ++ may.rest)) (length read) u w old e closed h in
       record { read = o.0; frame = λ t. absurd (cc); none = λ _. (o.1, e) })) h;
 }
 
 pub look_short : (reading : Reading) (old : ReaderView) (was is : InView) (frame : List ℕ) (new : ReaderView) → old.ahead ≡ None → old.ending ≡ Open → reading ≢ Full → FrameRead old.scrambled reading was frame is
     → new ≡ with_reading reading old → LooksAhead false old was new is
 look_short reading old was is frame new e opened other f same = let closed = closed_after reading old.ending other in rw same (record {
-  came = f.came;
+  further = f.further;
   step = short_step reading old (with_reading reading old) was is frame opened other refl refl f;
   hand = (with_reading_ahead reading old).2;
-  line = λ given taken u w may h.
-      let P : List ℕ → Type 0 = λ g. HasRead g (length taken) u w old → LookedAhead g (length (taken ++ f.came)) u (max w (u + 1)) false (with_reading reading old) in
-      subst P (sym (may.parts ∙ ap (through_mask old.scrambled) (append_assoc taken f.came may.rest))) (λ h.
+  line = λ available read u w may h.
+      let P : List ℕ → Type 0 = λ g. HasRead g (length read) u w old → LookedAhead g (length (read ++ f.further)) u (max w (u + 1)) false (with_reading reading old) in
+      subst P (sym (may.parts ∙ ap (through_mask old.scrambled) (append_assoc read f.further may.rest))) (λ h.
       let short = f.short other in
       let none = may.over closed in
-      let zero = closed_rest (through_mask old.scrambled (taken ++ (f.came ++ may.rest))) (length taken) u w old opened h in
+      let zero = closed_rest (through_mask old.scrambled (read ++ (f.further ++ may.rest))) (length read) u w old opened h in
       let size = h.still opened in
       let zero' : count_of old.ahead ≡ 0 = ap count_of e in
-      let here = short_here old.scrambled taken f.came may.rest u (omega arith) short.0 none in
+      let here = short_here old.scrambled read f.further may.rest u (omega arith) short.0 none in
       let kept = with_reading_ahead reading old in
-      let after = rest_after reading (through_mask old.scrambled (taken ++ (f.came ++ may.rest))) f.came old zero other (λ k q. (f.end k q).0) here.2 in
-      let read = short_read old.scrambled taken f.came may.rest u w old (with_reading reading old) h e opened short.0 none (kept.0 ∙ e) closed kept.1 after kept.3 in
+      let after = rest_after reading (through_mask old.scrambled (read ++ (f.further ++ may.rest))) f.further old zero other (λ k q. (f.end k q).0) here.2 in
+      let none_more = short_read old.scrambled read f.further may.rest u w old (with_reading reading old) h e opened short.0 none (kept.0 ∙ e) closed kept.1 after kept.3 in
       record { read = read.0; frame = λ t. absurd (cc); none = λ _. (read.1, kept.0 ∙ e) }) h;
 })
 
 pub look_whole : (reading : Reading) (old : ReaderView) (was is : InView) (frame : List ℕ) (new : ReaderView) → old.ahead ≡ None → old.ending ≡ Open → reading ≡ Full → FrameRead old.scrambled reading was frame is
     → new ≡ record old { ahead = Some frame } → LooksAhead true old was new is
 look_whole reading old was is frame new e opened full f same = rw same (record {
-  came = f.came;
+  further = f.further;
   step = whole_step reading old (record old { ahead = Some frame }) was is frame full opened refl refl f;
   hand = refl;
-  line = λ given taken u w may h.
-      let P : List ℕ → Type 0 = λ g. HasRead g (length taken) u w old → LookedAhead g (length (taken ++ f.came)) u (max w (u + 1)) true (record old { ahead = Some frame }) in
-      subst P (sym (may.parts ∙ ap (through_mask old.scrambled) (append_assoc taken f.came may.rest))) (λ h.
+  line = λ available read u w may h.
+      let P : List ℕ → Type 0 = λ g. HasRead g (length read) u w old → LookedAhead g (length (read ++ f.further)) u (max w (u + 1)) true (record old { ahead = Some frame }) in
+      subst P (sym (may.parts ∙ ap (through_mask old.scrambled) (append_assoc read f.further may.rest))) (λ h.
       let whole = f.whole full in
       let size = h.still opened in
       let zero : count_of old.ahead ≡ 0 = ap count_of e in
-      let n : length taken ≡ 16320 * u = omega arith in
-      let here = frame_here old.scrambled taken f.came may.rest u n whole.1 in
-      let there = whole_here old.scrambled taken f.came may.rest u n whole.1 in
-      let m = length-append taken f.came in
+      let n : length read ≡ 16320 * u = omega arith in
+      let here = frame_here old.scrambled read f.further may.rest u n whole.1 in
+      let there = whole_here old.scrambled read f.further may.rest u n whole.1 in
+      let m = length-append read f.further in
       record {
         read = record {
           within = omega arith;

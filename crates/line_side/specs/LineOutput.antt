@@ -87,7 +87,7 @@ pub record LineMade (n : ℕ) (form : LineForm) (first now : OutView) (puts : Li
   pub made : List (List ℕ)
   pub are_frames : AreLineFrames n [] puts made
   pub sent : IsSent first (through_mask form.scrambled (concat made)) now
-  pub frames : line.frames ≡ saturated (counted_frames first.state made sent.went)
+  pub frames : line.frames ≡ saturated (counted_frames first.state made sent.written)
   pub sapi : line.sapi ≡ line_sapi n
   pub section : HasSent LINE_COLUMNS made line.section
   pub path : HasSent LINE_COLUMNS made line.path

@@ -87,9 +87,9 @@ AsStood now line Holds = (form : LineForm) (first : InView) (read : List ℕ) (t
 -- after a piece: more bytes were read, and what the line may have from then on it might have before
 pub record PieceStands (form : LineForm) (first now : InView) (read : List ℕ) (t : ℕ)
     (old new : LineView) : Type 0 where
-  pub came : List ℕ
-  pub stands : LineStands form first now (read ++ came) t new
-  pub earlier : (available : List ℕ) → MayBe form.scrambled new.reader.ending (read ++ came) available
+  pub further : List ℕ
+  pub stands : LineStands form first now (read ++ further) t new
+  pub earlier : (available : List ℕ) → MayBe form.scrambled new.reader.ending (read ++ further) available
       → MayBe form.scrambled old.reader.ending read available
 
 -- What holds of a line in the turn in which it stands, whichever that is, whatever place it is read from and whatever

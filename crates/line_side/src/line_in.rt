@@ -95,7 +95,7 @@ impl<const COUNTS: usize> LineIn<COUNTS> {
 
         // bytes are taken of a live place, or none; it dies only where its port's count of faults rose or stands at its
         // end, and else the count is as it was; any other place is as it was
-        ensures gave { (came : List ℕ) × Gave (in_view P.Source place.old) came (in_view P.Source place.new) }
+        ensures gave { (further : List ℕ) × Gave (in_view P.Source place.old) further (in_view P.Source place.new) }
 
         // once the end was seen, the place died or the line has ended, the place is asked nothing more (of a line that
         // has ended `awaits` says it too)

@@ -88,7 +88,7 @@ same_device p k i o plan rack x y report new there same =
 
 -- what was taken of the line
 line_gave : {I : Type 0} (i : source.Ghosts I) (x y : InPlaceOf I) (ended : Ended) → (ended ≡ Memory → y ≡ x)
-    → (ended ≢ Memory → (taken : List ℕ) × Gave (in_view i x) taken (in_view i y)) → (taken : List ℕ) × Gave (in_view i x) taken (in_view i y)
+    → (ended ≢ Memory → (read : List ℕ) × Gave (in_view i x) read (in_view i y)) → (read : List ℕ) × Gave (in_view i x) read (in_view i y)
 line_gave i x y Memory same gave = ([], subst (λ place. Gave (in_view i x) [] (in_view i place)) (sym (same refl)) (gave_none (in_view i x)))
 line_gave i x y Done same gave = gave (λ e. cc)
 line_gave i x y Unfinished same gave = gave (λ e. cc)
@@ -98,11 +98,11 @@ line_gave i x y ReportFault same gave = gave (λ e. cc)
 -- no other place was asked
 only_line : {P K I O : Type 0} (p : source.Ghosts P) (k : sink.Ghosts K) (i : source.Ghosts I) (o : sink.Ghosts O) (plan : P) (rack : Rack I O) (x y : InPlaceOf I) (report new : K)
     (ended : Ended) → slice_get (line_ins rack) 0 ≡ Some x → (ended ≡ Memory → (y ≡ x) × (new ≡ report))
-    → (ended ≢ Memory → (taken : List ℕ) × Gave (in_view i x) taken (in_view i y)) → OnlyLine (device p k i o plan rack report) (after_line p k i o plan rack y new)
+    → (ended ≢ Memory → (read : List ℕ) × Gave (in_view i x) read (in_view i y)) → OnlyLine (device p k i o plan rack report) (after_line p k i o plan rack y new)
 only_line p k i o plan rack x y report new ended there memory gave = record {
   line =
-      subst (λ first. (taken : List ℕ) × Gave first taken (line_in_at (bays_view i o (with_line_in rack 0 y)) 0)) (sym (line_in_seen i o rack 0 x there))
-      (subst (λ now. (taken : List ℕ) × Gave (in_view i x) taken now) (sym (line_in_set i o rack 0 x y there)) (line_gave i x y ended (λ none. (memory none).0) gave));
+      subst (λ first. (read : List ℕ) × Gave first read (line_in_at (bays_view i o (with_line_in rack 0 y)) 0)) (sym (line_in_seen i o rack 0 x there))
+      (subst (λ now. (read : List ℕ) × Gave (in_view i x) read now) (sym (line_in_set i o rack 0 x y there)) (line_gave i x y ended (λ none. (memory none).0) gave));
   only = only_line_in i o rack 0 y;
 }
 
@@ -115,7 +115,7 @@ slot_answered p k i o plan rack x y report new ended slot there memory run after
     (subst (λ first. (ended ≢ Memory → SlotEnded slot first (line_in_at (bays_view i o (with_line_in rack 0 y)) 0) (k.got report) (k.got new) ended)) (sym (line_in_seen i o rack 0 x there))
     (subst (λ now. (ended ≢ Memory → SlotEnded slot (in_view i x) now (k.got report) (k.got new) ended)) (sym (line_in_set i o rack 0 x y there)) run))
     after
-    (only_line p k i o plan rack x y report new ended there memory (λ some. let h = run some in (h.taken, h.gave)))
+    (only_line p k i o plan rack x y report new ended there memory (λ some. let h = run some in (h.read, h.gave)))
 
 pub pull_answered : {P K I O : Type 0} (p : source.Ghosts P) (k : sink.Ghosts K) (i : source.Ghosts I) (o : sink.Ghosts O) (plan : P) (rack : Rack I O) (x y : InPlaceOf I) (report new : K)
     (ended : Ended) (own : Tributary) → slice_get (line_ins rack) 0 ≡ Some x → (ended ≡ Memory → (y ≡ x) × (new ≡ report))
@@ -126,7 +126,7 @@ pull_answered p k i o plan rack x y report new ended own there memory run after 
     (subst (λ first. (ended ≢ Memory → PullEnded own first (line_in_at (bays_view i o (with_line_in rack 0 y)) 0) (k.got report) (k.got new) ended)) (sym (line_in_seen i o rack 0 x there))
     (subst (λ now. (ended ≢ Memory → PullEnded own (in_view i x) now (k.got report) (k.got new) ended)) (sym (line_in_set i o rack 0 x y there)) run))
     after
-    (only_line p k i o plan rack x y report new ended there memory (λ some. let h = run some in (h.taken, h.gave)))
+    (only_line p k i o plan rack x y report new ended there memory (λ some. let h = run some in (h.read, h.gave)))
 
 -- after an answer that comes before anything was done, all places and the report are as they were
 pub refused_line : {P K O : Type 0} (rack : Rack P O) (x y : InPlaceOf P) (report new : K) (ended : Ended) → slice_get (line_ins rack) 0 ≡ Some x

@@ -16,16 +16,16 @@ use Rattle.line_commands.proofs.PullTable.{taken_by_number}
 
 -- what is left of the bytes taken alone
 left_alone : (clients : List ℕ) (turns : ℕ) (first last : BaysView) (was is : SinkView) (ended : Ended) (ran : BundleRan clients turns first last was is ended)
-    → LeftOf clients turns first last was is ended ran.taken ran.more (inputs_of clients first last ran.taken)
+    → LeftOf clients turns first last was is ended ran.read ran.more (inputs_of clients first last ran.read)
 left_alone clients turns first last was is ended ran =
-    ran.left (inputs_of clients first last ran.taken) (λ c here. record { given = ran.taken c; may = may_be_itself (ran.more c) (ran.taken c); is = refl })
+    ran.left (inputs_of clients first last ran.read) (λ c here. record { available = ran.read c; may = may_be_itself (ran.more c) (ran.read c); is = refl })
 
 -- the report got what is told, or a part of it
 later_of : (ended : Ended) (first : SinkView) (text : List ℕ) (last : SinkView) → Tells ended first text last → SinkLater first last
 later_of Done first text last tells = (text, tells)
 later_of Unfinished first text last tells = (text, tells)
 later_of Cut first text last tells = (text, tells)
-later_of ReportFault first text last (went, less, got) = (take went text, got)
+later_of ReportFault first text last (written, less, got) = (take written text, got)
 later_of Memory first text last tells = absurd tells
 
 pub bundle_later : (ended : Ended) (clients : List ℕ) (turns : ℕ) (first last : BaysView) (was is : SinkView) → BundleRan clients turns first last was is ended → SinkLater was is
@@ -34,36 +34,36 @@ bundle_later ended clients turns first last was is ran = later_of ended was _ is
 -- ---- by Given
 
 pub what_was_bundled : BundlesWhatWasGiven
-what_was_bundled clients turns old new ended given ran had = record {
+what_was_bundled clients turns old new ended available ran had = record {
   output = left.output;
   report = left.tells;
   took = λ c here.
       let was = place_of clients old.bays c in
       let is = place_of clients new.bays c in
-      let may = follows was is (ran.taken c) (ran.more c) (given c) (ran.client_in c here) (had c here) in
-      let read = left.read c here in
+      let may = follows was is (ran.read c) (ran.more c) (available c) (ran.client_in c here) (had c here) in
+      let needed = left.needed c here in
       record {
-        taken = ran.taken c;
+        read = ran.read c;
         rest = may.rest;
         parts = may.parts;
         more = ran.more c;
         over = may.over;
-        short = read.0;
-        read = read.1;
+        short = needed.0;
+        needed = needed.1;
         asked = left.asked c here;
-        number = λ below. taken_by_number was is (ran.taken c) (ran.client_in c here).gave below;
+        number = λ below. taken_by_number was is (ran.read c) (ran.client_in c here).gave below;
       };
   cut = left.cut;
   unfinished = left.unfinished;
 }
   where
     inputs : ℕ → ClientInput
-    inputs = inputs_of clients old.bays new.bays given
+    inputs = inputs_of clients old.bays new.bays available
 
-    left : LeftOf clients turns old.bays new.bays old.report new.report ended ran.taken ran.more (inputs_of clients old.bays new.bays given)
-    left = ran.left (inputs_of clients old.bays new.bays given) (λ c here. record {
-      given = given c;
-      may = follows (place_of clients old.bays c) (place_of clients new.bays c) (ran.taken c) (ran.more c) (given c) (ran.client_in c here) (had c here);
+    left : LeftOf clients turns old.bays new.bays old.report new.report ended ran.read ran.more (inputs_of clients old.bays new.bays available)
+    left = ran.left (inputs_of clients old.bays new.bays available) (λ c here. record {
+      available = available c;
+      may = follows (place_of clients old.bays c) (place_of clients new.bays c) (ran.read c) (ran.more c) (available c) (ran.client_in c here) (had c here);
       is = refl;
     })
 
@@ -72,7 +72,7 @@ what_was_bundled clients turns old new ended given ran had = record {
 never_cut : (clients : List ℕ) (turns : ℕ) (first last : BaysView) (was is : SinkView) → BundleRan clients turns first last was is Cut → AreBundledWell clients first last → ⊥
 never_cut clients turns first last was is ran well = go ((all.cut (λ e. cc)).0 refl)
   where
-    all : LeftOf clients turns first last was is Cut ran.taken ran.more (inputs_of clients first last ran.taken)
+    all : LeftOf clients turns first last was is Cut ran.read ran.more (inputs_of clients first last ran.read)
     all = left_alone clients turns first last was is Cut ran
 
     go : IsCut clients last → ⊥

@@ -19,9 +19,9 @@ use Rattle.line_commands.proofs.PullTable.{taken_by_number}
 -- ---- by Given
 
 -- how many bytes were taken, by the place's number
-pub took_by_number : (first last : InView) (taken : List ℕ) (more : Bool) (turns : ℕ) (given : List ℕ) → InputLeft first last taken more → TookOf turns given taken → last.number < 2 ^ 64 - 1
-    → last.number - first.number ≡ taken_of turns given
-took_by_number first last taken more turns given left took below = let n = taken_by_number first last taken left.gave below in omega (arith, n, took)
+pub took_by_number : (first last : InView) (read : List ℕ) (more : Bool) (turns : ℕ) (available : List ℕ) → InputLeft first last read more → TookOf turns available read → last.number < 2 ^ 64 - 1
+    → last.number - first.number ≡ taken_of turns available
+took_by_number first last read more turns available left took below = let n = taken_by_number first last read left.gave below in omega (arith, n, took)
 
 all_left : (ended : Ended) (own : Tributary) (turns wait : ℕ) (first last : Ends) (w p : List ℕ) (ran : ProtectRan own turns wait first last ended) → ended ≢ ReportFault
     → AllDone own turns wait first last ended ran.working ran.protection w p → LeftOfGiven own turns wait first last ended w p

@@ -21,8 +21,8 @@ of_otu2 slots port kind = ap of_kind kind
     of_kind k = record { line_slots = slots_of k; slots = slots.list; port = port }
 
 -- the bytes taken are among those that a line may turn out to have
-pub may_be_itself : (more : Bool) (taken : List ℕ) → MayHave more taken taken
-may_be_itself more taken = record { rest = []; over = λ e. refl; parts = sym (append-nil taken) }
+pub may_be_itself : (more : Bool) (read : List ℕ) → MayHave more read read
+may_be_itself more read = record { rest = []; over = λ e. refl; parts = sym (append-nil read) }
 
 -- the report got what is told, or a part of it
 told : (ended : Ended) (own : Tributary) (turns n t : ℕ) (first last : Ends) (working protection w p : List ℕ) → LeftSo ended own turns n t first last working protection w p
@@ -30,7 +30,7 @@ told : (ended : Ended) (own : Tributary) (turns n t : ℕ) (first last : Ends) (
 told Done own turns n t first last working protection w p left = (switch_text own n w p turns, left.report)
 told Unfinished own turns n t first last working protection w p left = (switch_text own n w p turns, left.report)
 told Cut own turns n t first last working protection w p left = (switch_text own n w p turns, left.report)
-told ReportFault own turns n t first last working protection w p left = (switch_text own n w p t ++ take left.1.went (switch_text_at own n w p t), left.1.report)
+told ReportFault own turns n t first last working protection w p left = (switch_text own n w p t ++ take left.1.written (switch_text_at own n w p t), left.1.report)
 told Memory own turns n t first last working protection w p left = absurd left
 
 pub protect_later : (ended : Ended) (own : Tributary) (turns n : ℕ) (first last : Ends) → ProtectRan own turns n first last ended → SinkLater first.report last.report

@@ -17,21 +17,21 @@ use Rattle.line_tool.proofs.ProtectTable.{still, took_by_number}
 -- the report got what is told, or a part of it
 pub unbundle_later : (ended : Ended) (turns : ℕ) (first last : BaysView) (was is : SinkView) → UnbundleRan turns first last was is ended → SinkLater was is
 unbundle_later ended turns first last was is ran =
-    sink_written_later (written_by ended) was is (report_text (arrived_before ran.taken turns)) (ran.left ran.taken (may_be_itself ran.more ran.taken)).report
+    sink_written_later (written_by ended) was is (report_text (arrived_before ran.read turns)) (ran.left ran.read (may_be_itself ran.more ran.read)).report
 
 -- ---- by Given
 
 pub what_was_unbundled : UnbundlesWhatWasGiven
-what_was_unbundled turns old new ended given ran had =
+what_was_unbundled turns old new ended available ran had =
     let first = line_in_at old.bays 0 in
     let last = line_in_at new.bays 0 in
-    let left = ran.left given (follows first last ran.taken ran.more given ran.line had) in
+    let left = ran.left available (follows first last ran.read ran.more available ran.line had) in
     record {
       outputs = left.outputs;
       report = left.report;
       cut = left.cut;
       unfinished = left.unfinished;
-      took = λ below. took_by_number first last ran.taken ran.more turns given ran.line left.took below;
+      took = λ below. took_by_number first last ran.read ran.more turns available ran.line left.took below;
     }
 
 -- ---- without faults
@@ -39,10 +39,10 @@ what_was_unbundled turns old new ended given ran had =
 never_cut : (turns : ℕ) (first last : BaysView) (was is : SinkView) → UnbundleRan turns first last was is Cut → AreOutputsWell first last → ⊥
 never_cut turns first last was is ran well = go ((all.cut (λ e. cc)).0 refl)
   where
-    all : UnbundleOf turns ran.taken ran.taken (arrived_before ran.taken turns) first last was is Cut
-    all = ran.left ran.taken (may_be_itself ran.more ran.taken)
+    all : UnbundleOf turns ran.read ran.read (arrived_before ran.read turns) first last was is Cut
+    all = ran.left ran.read (may_be_itself ran.more ran.read)
 
-    go : IsCut (arrived_before ran.taken turns) last → ⊥
+    go : IsCut (arrived_before ran.read turns) last → ⊥
     go (inl dead) = still (line_in_at first 0).state (line_in_at last 0).state (line_in_at first 0).faults (line_in_at last 0).faults ran.line.gave.state well.line well.line_live dead
     go (inr d) =
         still (client_out_at first d.cid).state (client_out_at last d.cid).state (client_out_at first d.cid).faults (client_out_at last d.cid).faults (all.outputs.sent d.cid d.low).gained.state

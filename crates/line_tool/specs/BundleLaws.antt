@@ -18,26 +18,26 @@ use Rattle.command_base.specs.declared.status.Status.{Status}
 use Rattle.command_base.specs.declared.status.Status.TheVariants as status
 
 -- the clients' inputs where they had these bytes to give
-abbrev pub inputs_of : (clients : List ℕ) (first last : BaysView) (given : ℕ → List ℕ) → (c : ℕ) → ClientInput
-inputs_of clients first last given c = input_given
-    (has_died (place_of clients first c).state (place_of clients last c).state) (given c)
+abbrev pub inputs_of : (clients : List ℕ) (first last : BaysView) (available : ℕ → List ℕ) → (c : ℕ) → ClientInput
+inputs_of clients first last available c = input_given
+    (has_died (place_of clients first c).state (place_of clients last c).state) (available c)
 
 -- These bytes from the front of a client's were taken: where its channel is asked in the turns, no block that was not
 -- needed for one packet more than these, and for that one; where it is not, none. The place's number tells how many
 -- bytes.
-pub record TookOf (Asked : Type 0) (packets : ℕ) (given : List ℕ) (first last : InView) : Type 0 where
-  pub taken : List ℕ
+pub record TookOf (Asked : Type 0) (packets : ℕ) (available : List ℕ) (first last : InView) : Type 0 where
+  pub read : List ℕ
   pub rest : List ℕ
-  pub parts : given ≡ taken ++ rest
+  pub parts : available ≡ read ++ rest
   pub more : Bool
   pub over : more ≡ false → rest ≡ []
   pub short : Bool
-  pub read : ReadAsNeeded short (packets + 1) taken
-  pub asked : WasAsked Asked packets more first last taken
-  pub number : last.number < 2 ^ 64 - 1 → last.number - first.number ≡ length taken
+  pub needed : ReadAsNeeded short (packets + 1) read
+  pub asked : WasAsked Asked packets more first last read
+  pub number : last.number < 2 ^ 64 - 1 → last.number - first.number ≡ length read
 
 -- What is left where the clients had these bytes to give.
-pub record BundledOfGiven (clients : List ℕ) (turns : ℕ) (old new : Device) (ended : Ended) (given : ℕ → List ℕ)
+pub record BundledOfGiven (clients : List ℕ) (turns : ℕ) (old new : Device) (ended : Ended) (available : ℕ → List ℕ)
     (inputs : ℕ → ClientInput) : Type 0 where
   pub output : OutputDue (channel_turns clients (texts_of (length clients) inputs) turns) turns (line_out_at old.bays 0)
       (line_out_at new.bays 0)
@@ -45,7 +45,7 @@ pub record BundledOfGiven (clients : List ℕ) (turns : ℕ) (old new : Device) 
       (λ c. (place_of clients new.bays c).state) (length clients)) new.report
   pub took : (c : ℕ) → c < length clients
       → TookOf (IsAskedWithin clients (texts_of (length clients) inputs) turns c)
-      (length (begun_of clients (texts_of (length clients) inputs) turns c)) (given c)
+      (length (begun_of clients (texts_of (length clients) inputs) turns c)) (available c)
       (place_of clients old.bays c) (place_of clients new.bays c)
   pub cut : ended ≢ ending.ReportFault → (ended ≡ ending.Cut) ↔ IsCut clients new.bays
   pub unfinished : ended ≢ ending.ReportFault
@@ -53,10 +53,11 @@ pub record BundledOfGiven (clients : List ℕ) (turns : ℕ) (old new : Device) 
 
 -- Where the clients tell their bytes, `bundle` leaves what it does of all that they had to give.
 abbrev pub BundlesWhatWasGiven : Type 0
-BundlesWhatWasGiven = (clients : List ℕ) (turns : ℕ) (old new : Device) (ended : Ended) (given : ℕ → List ℕ)
+BundlesWhatWasGiven = (clients : List ℕ) (turns : ℕ) (old new : Device) (ended : Ended) (available : ℕ → List ℕ)
     → Bundles clients turns old new ended
-    → ((c : ℕ) → c < length clients → HadToGive (place_of clients old.bays c) (place_of clients new.bays c) (given c))
-    → BundledOfGiven clients turns old new ended given (inputs_of clients old.bays new.bays given)
+    → ((c : ℕ) → c < length clients
+        → HadToGive (place_of clients old.bays c) (place_of clients new.bays c) (available c))
+    → BundledOfGiven clients turns old new ended available (inputs_of clients old.bays new.bays available)
 
 -- No client's place was dead, nor line output 0, and none of their counts of faults rose or stands at its end.
 pub record AreBundledWell (clients : List ℕ) (first last : BaysView) : Type 0 where

@@ -19,8 +19,8 @@ use Rattle.command_base.specs.declared.status.Status.{Status}
 use Rattle.command_base.specs.declared.status.Status.TheVariants as status
 
 -- how many bytes so many turns want of a line that gives these, and one more, or all where there are fewer
-abbrev pub taken_of : (turns : ℕ) → (given : List ℕ) → ℕ
-taken_of turns given = min (length given) (line_taken plain_otu2 given turns 0 + 1)
+abbrev pub taken_of : (turns : ℕ) → (available : List ℕ) → ℕ
+taken_of turns available = min (length available) (line_taken plain_otu2 available turns 0 + 1)
 
 -- What is left where working and protection had these bytes to give. By the places' numbers as many were taken of each
 -- as the turns want and one more, or all.

@@ -19,19 +19,20 @@ use Rattle.command_base.specs.declared.status.Status.TheVariants as status
 
 -- What is left where the line had these bytes to give. By the place's number as many were taken of it as the turns want
 -- and one more, or all.
-pub record UnbundledOfGiven (turns : ℕ) (old new : Device) (ended : Ended) (given : List ℕ) : Type 0 where
-  pub outputs : OutputsSent (arrived_before given turns) old.bays new.bays
-  pub report : SinkWrites (written_by ended) old.report (report_text (arrived_before given turns)) new.report
-  pub cut : ended ≢ ending.ReportFault → (ended ≡ ending.Cut) ↔ IsCut (arrived_before given turns) new.bays
+pub record UnbundledOfGiven (turns : ℕ) (old new : Device) (ended : Ended) (available : List ℕ) : Type 0 where
+  pub outputs : OutputsSent (arrived_before available turns) old.bays new.bays
+  pub report : SinkWrites (written_by ended) old.report (report_text (arrived_before available turns)) new.report
+  pub cut : ended ≢ ending.ReportFault → (ended ≡ ending.Cut) ↔ IsCut (arrived_before available turns) new.bays
   pub unfinished : ended ≢ ending.ReportFault
-      → (ended ≡ ending.Unfinished) ↔ ((IsCut (arrived_before given turns) new.bays → ⊥) × HasMore turns given)
+      → (ended ≡ ending.Unfinished) ↔ ((IsCut (arrived_before available turns) new.bays → ⊥) × HasMore turns available)
   pub took : (line_in_at new.bays 0).number < 2 ^ 64 - 1
-      → (line_in_at new.bays 0).number - (line_in_at old.bays 0).number ≡ taken_of turns given
+      → (line_in_at new.bays 0).number - (line_in_at old.bays 0).number ≡ taken_of turns available
 
 -- Where the line tells its bytes, `unbundle` leaves what it does of all that it had to give.
 abbrev pub UnbundlesWhatWasGiven : Type 0
-UnbundlesWhatWasGiven = (turns : ℕ) (old new : Device) (ended : Ended) (given : List ℕ) → Unbundles turns old new ended
-    → HadToGive (line_in_at old.bays 0) (line_in_at new.bays 0) given → UnbundledOfGiven turns old new ended given
+UnbundlesWhatWasGiven = (turns : ℕ) (old new : Device) (ended : Ended) (available : List ℕ)
+    → Unbundles turns old new ended → HadToGive (line_in_at old.bays 0) (line_in_at new.bays 0) available
+    → UnbundledOfGiven turns old new ended available
 
 -- Neither line input 0 nor a client output was dead, and none of their counts of faults rose or stands at its end.
 pub record AreOutputsWell (first last : BaysView) : Type 0 where

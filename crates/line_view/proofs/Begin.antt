@@ -59,16 +59,16 @@ view_begins form line shown watched pieces untaken kind stands new on first = re
       let n = k.1.1 in
       record {
         kind = n.kind ∙ (on i k.0 k.1.0).kind_is ∙ sym kind;
-        taken = n.taken ∙ sym (ap (taken_by (begun one 0)) untaken ∙ zero_by (begun one 0));
+        read = n.read ∙ sym (ap (taken_by (begun one 0)) untaken ∙ zero_by (begun one 0));
         port = n.port;
       };
-  sinks = λ given may i one at.
+  sinks = λ available may i one at.
       let k = asked_there shown watched new i one at in
       let n = k.1.1 in
-      let frames : frames_in (size_of form) given 0 line.pieces ≡ [] = ap (frames_in (size_of form) given 0) pieces ∙ frames_none (size_of form) given 0 in
-      subst (λ fs. StandsAfter (own_of one) (views_from (own_of one) one.first given 0) fs one.sink) (sym (ap (frames_by (begun one 0)) frames ∙ none_by (begun one 0)))
-      (subst (λ vs. StandsAfter (own_of one) vs [] one.sink) (sym (views_waits (own_of one) one.first given 0 (omega arith))) n.stands);
-  msi_is = λ given may. sym (ap (flat_map (msi_in (all_slots form))) (ap (frames_in (size_of form) given 0) pieces ∙ frames_none (size_of form) given 0));
+      let frames : frames_in (size_of form) available 0 line.pieces ≡ [] = ap (frames_in (size_of form) available 0) pieces ∙ frames_none (size_of form) available 0 in
+      subst (λ fs. StandsAfter (own_of one) (views_from (own_of one) one.first available 0) fs one.sink) (sym (ap (frames_by (begun one 0)) frames ∙ none_by (begun one 0)))
+      (subst (λ vs. StandsAfter (own_of one) vs [] one.sink) (sym (views_waits (own_of one) one.first available 0 (omega arith))) n.stands);
+  msi_is = λ available may. sym (ap (flat_map (msi_in (all_slots form))) (ap (frames_in (size_of form) available 0) pieces ∙ frames_none (size_of form) available 0));
 }
 
 -- a view does not end for want of memory, once it is begun

@@ -24,30 +24,30 @@ pub begun_on : (first t : ℕ) → nat_le first t ≡ true → nat_le first (t +
 begun_on first t h = grind (arith, nat_tests)
 
 -- none up to the first turn
-pub views_waits : (own : Tributary) (first : ℕ) (given : List ℕ) (t : ℕ) → t ≤ first → views_from own first given t ≡ []
+pub views_waits : (own : Tributary) (first : ℕ) (available : List ℕ) (t : ℕ) → t ≤ first → views_from own first available t ≡ []
 unfolding views_from
-views_waits own first given t early = let none : t - first ≡ 0 = omega (arith, early) in ap (past_of (view_at own given) first) none
+views_waits own first available t early = let none : t - first ≡ 0 = omega (arith, early) in ap (past_of (view_at own available) first) none
 
 -- one more with each turn from then on
-pub views_more : (own : Tributary) (first : ℕ) (given : List ℕ) (t : ℕ) → nat_le first t ≡ true → views_from own first given (t + 1) ≡ view_at own given t ∷ views_from own first given t
+pub views_more : (own : Tributary) (first : ℕ) (available : List ℕ) (t : ℕ) → nat_le first t ≡ true → views_from own first available (t + 1) ≡ view_at own available t ∷ views_from own first available t
 unfolding views_from
-views_more own first given t on =
+views_more own first available t on =
     let low = le_of first t on in
     let more : t + 1 - first ≡ suc (t - first) = omega (arith, low) in
     let here : first + (t - first) ≡ t = omega (arith, low) in
-    ap (past_of (view_at own given) first) more ∙ ap (λ i. view_at own given i ∷ past_of (view_at own given) first (t - first)) here
+    ap (past_of (view_at own available) first) more ∙ ap (λ i. view_at own available i ∷ past_of (view_at own available) first (t - first)) here
 
 -- those of a sink that begins with turn 1
-all_until : (own : Tributary) (given : List ℕ) (t : ℕ) → past_of (view_at own given) 0 t ≡ views_until own given t
+all_until : (own : Tributary) (available : List ℕ) (t : ℕ) → past_of (view_at own available) 0 t ≡ views_until own available t
 unfolding views_until
-all_until own given zero = refl
-all_until own given (suc t) =
+all_until own available zero = refl
+all_until own available (suc t) =
     let here : 0 + t ≡ t = omega arith in
-    ap (λ i. view_at own given i ∷ past_of (view_at own given) 0 t) here ∙ ap (λ vs. view_at own given t ∷ vs) (all_until own given t)
+    ap (λ i. view_at own available i ∷ past_of (view_at own available) 0 t) here ∙ ap (λ vs. view_at own available t ∷ vs) (all_until own available t)
 
-pub views_all : (own : Tributary) (given : List ℕ) (t : ℕ) → views_from own 0 given t ≡ views_until own given t
+pub views_all : (own : Tributary) (available : List ℕ) (t : ℕ) → views_from own 0 available t ≡ views_until own available t
 unfolding views_from
-views_all own given t = let all : t - 0 ≡ t = omega arith in ap (past_of (view_at own given) 0) all ∙ all_until own given t
+views_all own available t = let all : t - 0 ≡ t = omega arith in ap (past_of (view_at own available) 0) all ∙ all_until own available t
 
 pub none_by : (b : Bool) → frames_by b [] ≡ []
 none_by true = refl
@@ -58,20 +58,20 @@ zero_by true = refl
 zero_by false = refl
 
 -- the sink of the same tributary, by the turns and the frames that it has seen
-pub has_seen : (form : LineForm) (given : List ℕ) (t k : ℕ) (old new : Watched) (views : List (Option View)) (frames : List Taken) → IsSame old new
-    → views ≡ views_from (own_of old) old.first given t → frames ≡ frames_by (begun old t) (frames_in (size_of form) given t k) → StandsAfter (own_of old) views frames new.sink
-    → HasSeen form given t k new
-has_seen form given t k old new views frames same v f h =
-    let all = frames_in (size_of form) given t k in
-    subst (λ o. StandsAfter o (views_from o new.first given t) (frames_by (begun new t) all) new.sink) (sym (same_own old new same))
-    (subst (λ n. StandsAfter (own_of old) (views_from (own_of old) n given t) (frames_by (nat_le n t) all) new.sink) (sym same.first)
+pub has_seen : (form : LineForm) (available : List ℕ) (t k : ℕ) (old new : Watched) (views : List (Option View)) (frames : List Taken) → IsSame old new
+    → views ≡ views_from (own_of old) old.first available t → frames ≡ frames_by (begun old t) (frames_in (size_of form) available t k) → StandsAfter (own_of old) views frames new.sink
+    → HasSeen form available t k new
+has_seen form available t k old new views frames same v f h =
+    let all = frames_in (size_of form) available t k in
+    subst (λ o. StandsAfter o (views_from o new.first available t) (frames_by (begun new t) all) new.sink) (sym (same_own old new same))
+    (subst (λ n. StandsAfter (own_of old) (views_from (own_of old) n available t) (frames_by (nat_le n t) all) new.sink) (sym same.first)
     (subst (λ vs. StandsAfter (own_of old) vs (frames_by (begun old t) all) new.sink) v (subst (λ fs. StandsAfter (own_of old) views fs new.sink) f h)))
 
 -- a sink that is as it was
-pub seen_still : (form : LineForm) (given : List ℕ) (t s k m : ℕ) (old new : Watched) → IsSame old new → new.sink ≡ old.sink
-    → views_from (own_of old) old.first given t ≡ views_from (own_of old) old.first given s
-    → frames_by (begun old t) (frames_in (size_of form) given t k) ≡ frames_by (begun old s) (frames_in (size_of form) given s m)
-    → HasSeen form given t k old → HasSeen form given s m new
-seen_still form given t s k m old new same sink v f h =
-    has_seen form given s m old new (views_from (own_of old) old.first given t) (frames_by (begun old t) (frames_in (size_of form) given t k)) same v f
-    (subst (λ x. StandsAfter (own_of old) (views_from (own_of old) old.first given t) (frames_by (begun old t) (frames_in (size_of form) given t k)) x) (sym sink) h)
+pub seen_still : (form : LineForm) (available : List ℕ) (t s k m : ℕ) (old new : Watched) → IsSame old new → new.sink ≡ old.sink
+    → views_from (own_of old) old.first available t ≡ views_from (own_of old) old.first available s
+    → frames_by (begun old t) (frames_in (size_of form) available t k) ≡ frames_by (begun old s) (frames_in (size_of form) available s m)
+    → HasSeen form available t k old → HasSeen form available s m new
+seen_still form available t s k m old new same sink v f h =
+    has_seen form available s m old new (views_from (own_of old) old.first available t) (frames_by (begun old t) (frames_in (size_of form) available t k)) same v f
+    (subst (λ x. StandsAfter (own_of old) (views_from (own_of old) old.first available t) (frames_by (begun old t) (frames_in (size_of form) available t k)) x) (sym sink) h)

@@ -48,8 +48,8 @@ unfolding view_of
 of_turn own true frames = refl
 of_turn own false frames = refl
 
-pub turn_msi : (form : LineForm) (given : List ℕ) (t : ℕ) (whole : Bool) → whole ≡ is_some (multiframe (size_of form) (mfas_of given) t)
-    → (if whole then flat_map (msi_in (all_slots form)) (frames_in (size_of form) given t (size_of form)) else []) ≡ msi_came form given t
+pub turn_msi : (form : LineForm) (available : List ℕ) (t : ℕ) (whole : Bool) → whole ≡ is_some (multiframe (size_of form) (mfas_of available) t)
+    → (if whole then flat_map (msi_in (all_slots form)) (frames_in (size_of form) available t (size_of form)) else []) ≡ msi_came form available t
 unfolding msi_came
-turn_msi form given t whole same =
-    of_turn (all_slots form) whole (frames_in (size_of form) given t (size_of form)) ∙ ap msi_shown (turn_frames (all_slots form) (size_of form) given t whole refl same)
+turn_msi form available t whole same =
+    of_turn (all_slots form) whole (frames_in (size_of form) available t (size_of form)) ∙ ap msi_shown (turn_frames (all_slots form) (size_of form) available t whole refl same)

@@ -31,16 +31,16 @@ pub tells_the_same : TellsTheSame
 tells_the_same = λ x one other t is agree.
     ap (λ told. if is_shown x t then tributary_line x.name x.own.port x.own.slots told else []) (same_told x.own x.first one other t is agree)
 
-told_bytes : (own : Tributary) (given : List ℕ) (t : ℕ) → (told_at own 0 given t).bytes ≡ length (emitted_at own given t)
+told_bytes : (own : Tributary) (available : List ℕ) (t : ℕ) → (told_at own 0 available t).bytes ≡ length (emitted_at own available t)
 unfolding told_at emitted_at
-told_bytes own given t = ap (λ past. (told_of own past (view_at own given t)).bytes) (views_all own given t)
+told_bytes own available t = ap (λ past. (told_of own past (view_at own available t)).bytes) (views_all own available t)
 
-all_bytes : (own : Tributary) (given : List ℕ) (turns : List ℕ) → bytes_told own given turns ≡ length (flat_map (emitted_at own given) turns)
-all_bytes own given [] = refl
-all_bytes own given (t ∷ turns) =
-    ap (λ n. n + bytes_told own given turns) (told_bytes own given t)
-    ∙ ap (λ n. length (emitted_at own given t) + n) (all_bytes own given turns)
-    ∙ sym (length-append (emitted_at own given t) (flat_map (emitted_at own given) turns))
+all_bytes : (own : Tributary) (available : List ℕ) (turns : List ℕ) → bytes_told own available turns ≡ length (flat_map (emitted_at own available) turns)
+all_bytes own available [] = refl
+all_bytes own available (t ∷ turns) =
+    ap (λ n. n + bytes_told own available turns) (told_bytes own available t)
+    ∙ ap (λ n. length (emitted_at own available t) + n) (all_bytes own available turns)
+    ∙ sym (length-append (emitted_at own available t) (flat_map (emitted_at own available) turns))
 
 pub tells_all_bytes : TellsAllBytes
 tells_all_bytes = all_bytes
@@ -59,30 +59,30 @@ joined : (f : ℕ → List ℕ) (turns : List ℕ) → concat (map f turns) ≡ 
 joined f [] = refl
 joined f (t ∷ turns) = ap (λ rest. f t ++ rest) (joined f turns)
 
-each_length : (own : Tributary) (given : List ℕ) (turns : List ℕ) → map (λ t. (told_at own 0 given t).bytes) turns ≡ map (λ t. length (emitted_at own given t)) turns
-each_length own given [] = refl
-each_length own given (t ∷ turns) =
-    ap (λ n. n ∷ map (λ i. (told_at own 0 given i).bytes) turns) (told_bytes own given t)
-    ∙ ap (λ ns. length (emitted_at own given t) ∷ ns) (each_length own given turns)
+each_length : (own : Tributary) (available : List ℕ) (turns : List ℕ) → map (λ t. (told_at own 0 available t).bytes) turns ≡ map (λ t. length (emitted_at own available t)) turns
+each_length own available [] = refl
+each_length own available (t ∷ turns) =
+    ap (λ n. n ∷ map (λ i. (told_at own 0 available i).bytes) turns) (told_bytes own available t)
+    ∙ ap (λ ns. length (emitted_at own available t) ∷ ns) (each_length own available turns)
 
 -- the turns of `pull` are those of a view
-pulled : (port : ℕ) (slots given : List ℕ)
-    → pull_report (tributary port slots) given ≡ flat_map (emitted_at (tributary port slots) given) (turns_of 8 (mfas_of given))
+pulled : (port : ℕ) (slots available : List ℕ)
+    → pull_report (tributary port slots) available ≡ flat_map (emitted_at (tributary port slots) available) (turns_of 8 (mfas_of available))
 unfolding pull_report turns_pulled turns_of
-pulled port slots given = refl
+pulled port slots available = refl
 
-tells_turns : (port : ℕ) (slots given : List ℕ)
-    → pieces_of (each_told (tributary port slots) given) (pull_report (tributary port slots) given)
-    ≡ map (emitted_at (tributary port slots) given) (turns_of 8 (mfas_of given))
-tells_turns port slots given =
+tells_turns : (port : ℕ) (slots available : List ℕ)
+    → pieces_of (each_told (tributary port slots) available) (pull_report (tributary port slots) available)
+    ≡ map (emitted_at (tributary port slots) available) (turns_of 8 (mfas_of available))
+tells_turns port slots available =
     let own = tributary port slots in
-    let turns = turns_of 8 (mfas_of given) in
-    ap (λ lengths. pieces_of lengths (pull_report own given)) (each_length own given turns)
-    ∙ ap (pieces_of (map (λ t. length (emitted_at own given t)) turns)) (pulled port slots given)
-    ∙ cut_back (emitted_at own given) turns
+    let turns = turns_of 8 (mfas_of available) in
+    ap (λ lengths. pieces_of lengths (pull_report own available)) (each_length own available turns)
+    ∙ ap (pieces_of (map (λ t. length (emitted_at own available t)) turns)) (pulled port slots available)
+    ∙ cut_back (emitted_at own available) turns
 
 pub tells_what_pull_writes : TellsWhatPullWrites
-tells_what_pull_writes = λ port slots given. record {
-  turns = tells_turns port slots given;
-  together = ap concat (tells_turns port slots given) ∙ joined (emitted_at (tributary port slots) given) (turns_of 8 (mfas_of given)) ∙ sym (pulled port slots given);
+tells_what_pull_writes = λ port slots available. record {
+  turns = tells_turns port slots available;
+  together = ap concat (tells_turns port slots available) ∙ joined (emitted_at (tributary port slots) available) (turns_of 8 (mfas_of available)) ∙ sym (pulled port slots available);
 }

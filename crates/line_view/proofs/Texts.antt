@@ -72,38 +72,38 @@ known_item xs i item less is = slice_get_read xs (length xs) i item refl less is
 -- ---- the lines of a turn
 
 -- that of one tributary
-one_line : (given : List ℕ) (t : ℕ) (one : Watched) → (begun one t ≡ true → one.told ≡ told_at (own_of one) one.first given t) → one.port ≡ one.sink.port
-    → watched_line t one ≡ showing_text given t (showing_of one)
-one_line given t one told port = by_turn (begun one t) refl
+one_line : (available : List ℕ) (t : ℕ) (one : Watched) → (begun one t ≡ true → one.told ≡ told_at (own_of one) one.first available t) → one.port ≡ one.sink.port
+    → watched_line t one ≡ showing_text available t (showing_of one)
+one_line available t one told port = by_turn (begun one t) refl
   where
-    by_turn : (b : Bool) → begun one t ≡ b → watched_line t one ≡ showing_text given t (showing_of one)
+    by_turn : (b : Bool) → begun one t ≡ b → watched_line t one ≡ showing_text available t (showing_of one)
     by_turn true on =
         ap (λ p. if is_shown (showing_of one) t then tributary_line one.name.bytes p one.sink.slots.list one.told else []) port
         ∙ ap (λ x. if is_shown (showing_of one) t then tributary_line one.name.bytes one.sink.port one.sink.slots.list x else []) (told on)
     by_turn false off =
         let none : is_shown (showing_of one) t ≡ false = ap (λ b. b && nat_lt t one.stop) off in
         ap (λ b. if b then tributary_line one.name.bytes one.port one.sink.slots.list one.told else []) none
-        ∙ sym (ap (λ b. if b then tributary_line one.name.bytes one.sink.port one.sink.slots.list (told_at (own_of one) one.first given t) else []) none)
+        ∙ sym (ap (λ b. if b then tributary_line one.name.bytes one.sink.port one.sink.slots.list (told_at (own_of one) one.first available t) else []) none)
 
-each_line : (given : List ℕ) (t : ℕ) (watched : List Watched)
-    → ((i : ℕ) (one : Watched) → slice_get watched i ≡ Some one → begun one t ≡ true → one.told ≡ told_at (own_of one) one.first given t)
+each_line : (available : List ℕ) (t : ℕ) (watched : List Watched)
+    → ((i : ℕ) (one : Watched) → slice_get watched i ≡ Some one → begun one t ≡ true → one.told ≡ told_at (own_of one) one.first available t)
     → ((i : ℕ) (one : Watched) → slice_get watched i ≡ Some one → one.port ≡ one.sink.port)
-    → flat_map (watched_line t) watched ≡ flat_map (showing_text given t) (map showing_of watched)
-each_line given t [] told ports = refl
-each_line given t (one ∷ watched) told ports =
-    ap (λ xs. xs ++ flat_map (watched_line t) watched) (one_line given t one (told 0 one refl) (ports 0 one refl))
-    ∙ ap (λ xs. showing_text given t (showing_of one) ++ xs) (each_line given t watched (λ i x at. told (suc i) x at) (λ i x at. ports (suc i) x at))
+    → flat_map (watched_line t) watched ≡ flat_map (showing_text available t) (map showing_of watched)
+each_line available t [] told ports = refl
+each_line available t (one ∷ watched) told ports =
+    ap (λ xs. xs ++ flat_map (watched_line t) watched) (one_line available t one (told 0 one refl) (ports 0 one refl))
+    ∙ ap (λ xs. showing_text available t (showing_of one) ++ xs) (each_line available t watched (λ i x at. told (suc i) x at) (λ i x at. ports (suc i) x at))
 
 -- they are what the definition says
-pub lines_are : (form : LineForm) (given : List ℕ) (t : ℕ) (watched : List Watched) (seen : TurnSeen) (msi : List (ℕ × ℕ)) → seen ≡ seen_at form given t → msi ≡ msi_came form given t
-    → ((i : ℕ) (one : Watched) → slice_get watched i ≡ Some one → begun one t ≡ true → one.told ≡ told_at (own_of one) one.first given t)
+pub lines_are : (form : LineForm) (available : List ℕ) (t : ℕ) (watched : List Watched) (seen : TurnSeen) (msi : List (ℕ × ℕ)) → seen ≡ seen_at form available t → msi ≡ msi_came form available t
+    → ((i : ℕ) (one : Watched) → slice_get watched i ≡ Some one → begun one t ≡ true → one.told ≡ told_at (own_of one) one.first available t)
     → ((i : ℕ) (one : Watched) → slice_get watched i ≡ Some one → one.port ≡ one.sink.port)
-    → lines_of t seen msi watched ≡ turn_text form (map showing_of watched) given t
+    → lines_of t seen msi watched ≡ turn_text form (map showing_of watched) available t
 unfolding lines_of turn_text
-lines_are form given t watched seen msi same came told ports =
+lines_are form available t watched seen msi same further told ports =
     ap (λ s. turn_line (t + 1) s ++ (flat_map msi_line msi ++ flat_map (watched_line t) watched)) same
-    ∙ ap (λ m. turn_line (t + 1) (seen_at form given t) ++ (flat_map msi_line m ++ flat_map (watched_line t) watched)) came
-    ∙ ap (λ xs. turn_line (t + 1) (seen_at form given t) ++ (flat_map msi_line (msi_came form given t) ++ xs)) (each_line given t watched told ports)
+    ∙ ap (λ m. turn_line (t + 1) (seen_at form available t) ++ (flat_map msi_line m ++ flat_map (watched_line t) watched)) further
+    ∙ ap (λ xs. turn_line (t + 1) (seen_at form available t) ++ (flat_map msi_line (msi_came form available t) ++ xs)) (each_line available t watched told ports)
 
 -- ---- turns one after another
 

@@ -63,30 +63,30 @@ between size ms t some = let none = none_wanted size ms t some in omega (arith, 
 -- ---- what was taken
 
 -- as many bytes were taken as so many frames have, or all that there are
-pub record TookFrames (frames : ℕ) (given taken : List ℕ) (r : ReaderView) : Type 0 where
-  pub still : r.ending ≡ Open → length taken ≡ 16320 * frames
-  pub over : r.ending ≢ Open → (length taken ≡ length given) × (length given < 16320 * frames)
+pub record TookFrames (frames : ℕ) (available read : List ℕ) (r : ReaderView) : Type 0 where
+  pub still : r.ending ≡ Open → length read ≡ 16320 * frames
+  pub over : r.ending ≢ Open → (length read ≡ length available) × (length available < 16320 * frames)
 
-took_read : (frames : ℕ) (given taken : List ℕ) (u : ℕ) (r : ReaderView) → HasRead given (length taken) u frames r → TookFrames frames given taken r
-took_read frames given taken u r h = record {
+took_read : (frames : ℕ) (available read : List ℕ) (u : ℕ) (r : ReaderView) → HasRead available (length read) u frames r → TookFrames frames available read r
+took_read frames available read u r h = record {
   still = λ on. let s = h.still on in s.0 ∙ ap (λ n. 16320 * n) s.1;
   over = λ closed. let o = h.over closed in (o.1, omega (arith, o.2));
 }
 
 -- after t turns
-pub took_turns : (size : ℕ) (given taken : List ℕ) (t : ℕ) (line : LineView) → 1 ≤ size → IsLine size given (length taken) t line → line.pieces ≡ 0
-    → TookFrames (wanted size (mfas_of given) t) given taken line.reader
-took_turns size given taken t line some is none =
-    let used = λ (k : ℕ). used_in size (mfas_of given) (line_state size (mfas_of given) t) k in
-    let read = subst (λ k. HasRead given (length taken) (used k) (wanted_so_far size (mfas_of given) t k) line.reader) none is.read in
-    took_read (wanted size (mfas_of given) t) given taken (used 0) line.reader
-    (subst (λ w. HasRead given (length taken) (used 0) w line.reader) (between size (mfas_of given) t some) read)
+pub took_turns : (size : ℕ) (available read : List ℕ) (t : ℕ) (line : LineView) → 1 ≤ size → IsLine size available (length read) t line → line.pieces ≡ 0
+    → TookFrames (wanted size (mfas_of available) t) available read line.reader
+took_turns size available read t line some is none =
+    let used = λ (k : ℕ). used_in size (mfas_of available) (line_state size (mfas_of available) t) k in
+    let has_read = subst (λ k. HasRead available (length read) (used k) (wanted_so_far size (mfas_of available) t k) line.reader) none is.read in
+    took_read (wanted size (mfas_of available) t) available read (used 0) line.reader
+    (subst (λ w. HasRead available (length read) (used 0) w line.reader) (between size (mfas_of available) t some) has_read)
 
 -- after all of them
-pub took_wanted : (size : ℕ) (given taken : List ℕ) (t : ℕ) (line : LineView) → 1 ≤ size → IsLine size given (length taken) t line → line.pieces ≡ 0 → length (turns_of size (mfas_of given)) ≡ t
-    → TookFrames (frames_wanted size given) given taken line.reader
-took_wanted size given taken t line some is none count =
-    subst (λ n. TookFrames (wanted size (mfas_of given) n) given taken line.reader) (sym count) (took_turns size given taken t line some is none)
+pub took_wanted : (size : ℕ) (available read : List ℕ) (t : ℕ) (line : LineView) → 1 ≤ size → IsLine size available (length read) t line → line.pieces ≡ 0 → length (turns_of size (mfas_of available)) ≡ t
+    → TookFrames (frames_wanted size available) available read line.reader
+took_wanted size available read t line some is none count =
+    subst (λ n. TookFrames (wanted size (mfas_of available) n) available read line.reader) (sym count) (took_turns size available read t line some is none)
 
 -- before any turn nothing is wanted
 pub none_by_turns : (size : ℕ) (ms : List ℕ) → wanted size ms 0 ≡ 0
@@ -94,10 +94,10 @@ unfolding wanted
 none_by_turns size ms = refl
 
 -- so many are the least of both
-pub took_least : (frames : ℕ) (given taken : List ℕ) (r : ReaderView) → length taken ≤ length given → TookFrames frames given taken r → length taken ≡ min (length given) (16320 * frames)
-took_least frames given taken r part h = by_ending r.ending refl
+pub took_least : (frames : ℕ) (available read : List ℕ) (r : ReaderView) → length read ≤ length available → TookFrames frames available read r → length read ≡ min (length available) (16320 * frames)
+took_least frames available read r part h = by_ending r.ending refl
   where
-    by_ending : (e : Ending) → r.ending ≡ e → length taken ≡ min (length given) (16320 * frames)
+    by_ending : (e : Ending) → r.ending ≡ e → length read ≡ min (length available) (16320 * frames)
     by_ending Open e = let count = h.still e in omega (arith, count, part)
     by_ending Seen e = let over = h.over (λ f. let g : Seen ≡ Open = sym e ∙ f in cc) in omega (arith, over.0, over.1)
     by_ending Died e = let over = h.over (λ f. let g : Died ≡ Open = sym e ∙ f in cc) in omega (arith, over.0, over.1)

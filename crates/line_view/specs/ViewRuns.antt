@@ -93,17 +93,17 @@ ViewEnds Memory ending more read now = ⊥
 -- front.
 pub record ViewEnded (form : LineForm) (shows : List Showing) (first now : InView) (old new : SinkView)
     (ended : Ended) : Type 0 where
-  pub taken : List ℕ
-  pub gave : Gave first taken now
+  pub read : List ℕ
+  pub gave : Gave first read now
   pub more : Bool
   pub over : more ≡ false → now.state ≡ Live → HasEnded now.left now.ended
   pub ending : Ending
   pub ended_as : ended ≢ ReportFault → EndedAs ending now
   pub report : (rest : List ℕ) → MayFollow more rest
-      → SinkWrites (written_of ended) old (view_text form shows ending (through_mask form.scrambled (taken ++ rest)))
+      → SinkWrites (written_of ended) old (view_text form shows ending (through_mask form.scrambled (read ++ rest)))
       new
-  pub ends : ViewEnds ended ending more taken now
+  pub ends : ViewEnds ended ending more read now
   pub took : ended ≢ ReportFault → (rest : List ℕ) → MayFollow more rest
-      → length taken ≡ bytes_taken (size_of form) (through_mask form.scrambled (taken ++ rest))
+      → length read ≡ bytes_taken (size_of form) (through_mask form.scrambled (read ++ rest))
   pub failed : ended ≡ ReportFault → (rest : List ℕ) → MayFollow more rest
-      → WriteFailed form shows ending (through_mask form.scrambled (taken ++ rest)) taken old new
+      → WriteFailed form shows ending (through_mask form.scrambled (read ++ rest)) read old new

@@ -155,7 +155,7 @@ turn_line number seen =
 
 -- the MSI byte of a slot
 unfoldable pub msi_line : ℕ × ℕ → List ℕ
-msi_line came = codes "msi " ++ decimal (came.0) ++ codes " " ++ hex_text (came.1) ++ codes "\n"
+msi_line further = codes "msi " ++ decimal (further.0) ++ codes " " ++ hex_text (further.1) ++ codes "\n"
 
 -- what a turn says of a tributary, behind its name and port
 unfoldable pub told_text : (slots : List ℕ) → Told → List ℕ

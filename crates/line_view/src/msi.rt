@@ -15,11 +15,16 @@ pub(crate) type MsiBytes = ArrayVec<(u8, u8), MOST_SLOTS>;
 
 /// Notes the MSI byte of a frame of a line of this kind, with its slot, where the MFAS that is expected of it is that
 /// of one.
-pub(crate) fn note_msi<F: TakeFrame>(kind: LineKind, frame: &F, expected: u8, came: &mut MsiBytes)
-    requires room { length came.old.items < MOST_SLOTS }
-    ensures bytes { came.new.items ≡ came.old.items
+pub(crate) fn note_msi<F: TakeFrame>(
+    kind: LineKind,
+    frame: &F,
+    expected: u8,
+    further: &mut MsiBytes,
+)
+    requires room { length further.old.items < MOST_SLOTS }
+    ensures bytes { further.new.items ≡ further.old.items
         ++ msi_at (range_with_len 1 (slots_of kind)) expected (F.bytes frame.now) }
-    ensures few { length came.new.items ≤ length came.old.items + 1 }
+    ensures few { length further.new.items ≤ length further.old.items + 1 }
 {
     if expected < 2 {
         return;
@@ -27,5 +32,5 @@ pub(crate) fn note_msi<F: TakeFrame>(kind: LineKind, frame: &F, expected: u8, ca
     if expected > kind.slots() + 1 {
         return;
     }
-    came.push((expected - 1, frame.psi()));
+    further.push((expected - 1, frame.psi()));
 }

@@ -29,17 +29,17 @@ run_written signal place at done count byte old new at_is bytes before run same 
     ]
 
 -- a piece that was written from a place on that is the next one of the stream
-pub piece_is : (own signal : Signal) (place given n : ℕ) (into : List ℕ) → own ≡ signal → place ≡ given % 3915776 → length into ≡ n
+pub piece_is : (own signal : Signal) (place emitted n : ℕ) (into : List ℕ) → own ≡ signal → place ≡ emitted % 3915776 → length into ≡ n
     → ((k : ℕ) → k < n → get_or into k 0 ≡ signal_byte own (place + k))
-    → into ≡ signal_bytes signal given n
+    → into ≡ signal_bytes signal emitted n
 unfolding signal_bytes
-piece_is own signal place given n into same at size bytes =
-    let wanted : List ℕ = map (signal_byte signal) (range_with_len given n) in
-    let many : length wanted ≡ n = length-map-range_with_len (signal_byte signal) given n in
+piece_is own signal place emitted n into same at size bytes =
+    let wanted : List ℕ = map (signal_byte signal) (range_with_len emitted n) in
+    let many : length wanted ≡ n = length-map-range_with_len (signal_byte signal) emitted n in
     ext_get_or 0 into wanted (size ∙ sym many) (λ k h.
     let below : k < n = omega arith in
     bytes k below
     ∙ ap (λ s. signal_byte s (place + k)) same
     ∙ ap (λ p. signal_byte signal (p + k)) at
-    ∙ signal_byte-again signal given k
-    ∙ sym (get_or-map-range_with_len (signal_byte signal) given n k (given + k) 0 below (omega arith)))
+    ∙ signal_byte-again signal emitted k
+    ∙ sym (get_or-map-range_with_len (signal_byte signal) emitted n k (emitted + k) 0 below (omega arith)))

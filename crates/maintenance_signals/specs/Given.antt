@@ -9,6 +9,6 @@ pub record StreamPlace : Type 0 where
   pub place : ℕ
 
 -- So many bytes of this signal's stream were given: it stands at the next one. The stream comes again after 256 frames.
-pub record HasGiven (signal : Signal) (given : ℕ) (stands : StreamPlace) : Type 0 where
+pub record HasEmitted (signal : Signal) (emitted : ℕ) (stands : StreamPlace) : Type 0 where
   pub signal_is : stands.signal ≡ signal
-  pub place_is : stands.place ≡ given % PERIOD
+  pub place_is : stands.place ≡ emitted % PERIOD

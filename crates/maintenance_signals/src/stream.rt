@@ -27,29 +27,29 @@ impl Model for SignalBytes {
 
 impl SignalBytes {
     ghost use Rattle.maintenance_signals.specs.declared.signal.Signal.{Signal};
-    ghost use Rattle.maintenance_signals.specs.Given.{HasGiven};
+    ghost use Rattle.maintenance_signals.specs.Given.{HasEmitted};
     ghost use Rattle.maintenance_signals.specs.Stream.{signal_bytes};
 
     /// The stream of this signal, at its first byte.
     pub fn new(signal: Signal) -> SignalBytes
-        ensures { HasGiven signal 0 result }
+        ensures { HasEmitted signal 0 result }
     {
         SignalBytes { signal, place: 0 }
     }
 
     /// Writes the next bytes of the stream into all of `into`.
     pub fn next(&mut self, into: &mut [u8])
-        ensures bytes { (signal : Signal) (given : ℕ) → HasGiven signal given self.old
-            → into.new ≡ signal_bytes signal given (length into.old) }
-        ensures given { (signal : Signal) (given : ℕ) → HasGiven signal given self.old
-            → HasGiven signal (given + length into.old) self.new }
+        ensures bytes { (signal : Signal) (emitted : ℕ) → HasEmitted signal emitted self.old
+            → into.new ≡ signal_bytes signal emitted (length into.old) }
+        ensures emitted { (signal : Signal) (emitted : ℕ) → HasEmitted signal emitted self.old
+            → HasEmitted signal (emitted + length into.old) self.new }
     {
         self.place = fill_from(self.signal, self.place, into);
     }
 
     /// Goes back to the first byte of the stream.
     pub fn restart(&mut self)
-        ensures { (signal : Signal) (given : ℕ) → HasGiven signal given self.old → HasGiven signal 0 self.new }
+        ensures { (signal : Signal) (emitted : ℕ) → HasEmitted signal emitted self.old → HasEmitted signal 0 self.new }
     {
         self.place = 0;
     }

@@ -16,7 +16,7 @@ both_wrong right other = false
 
 -- A slot is marked where the last two of its MSI bytes, which are listed as they came, were both wrong.
 abbrev pub is_marked : (port : ℕ) → List ℕ → Bool
-is_marked port came = both_wrong (msi_byte port) (reverse came)
+is_marked port read = both_wrong (msi_byte port) (reverse read)
 
 -- what is kept of the bytes that came
 pub record Watch : Type 0 where
@@ -25,7 +25,7 @@ pub record Watch : Type 0 where
   pub marked : Bool
 
 -- These MSI bytes came, in this order, of a slot that an ODTU of this port uses.
-pub record HasTaken (port : ℕ) (came : List ℕ) (watch : Watch) : Type 0 where
+pub record HasTaken (port : ℕ) (read : List ℕ) (watch : Watch) : Type 0 where
   pub right_is : watch.right ≡ msi_byte port
-  pub last_is : watch.last_wrong ≡ first_wrong (msi_byte port) (reverse came)
-  pub marked_is : watch.marked ≡ is_marked port came
+  pub last_is : watch.last_wrong ≡ first_wrong (msi_byte port) (reverse read)
+  pub marked_is : watch.marked ≡ is_marked port read

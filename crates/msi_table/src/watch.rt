@@ -44,8 +44,8 @@ impl MsiWatch {
 
     /// Takes the next MSI byte of the slot.
     pub fn take(&mut self, byte: u8)
-        ensures { (port : ℕ) (came : List ℕ) → HasTaken port came self.old
-            → HasTaken port (came ++ byte ∷ []) self.new }
+        ensures { (port : ℕ) (read : List ℕ) → HasTaken port read self.old
+            → HasTaken port (read ++ byte ∷ []) self.new }
     {
         let wrong = byte != self.right;
         self.marked = wrong && self.last_wrong;
@@ -54,7 +54,7 @@ impl MsiWatch {
 
     /// Whether the last two bytes were both wrong.
     pub fn marked(&self) -> bool
-        ensures { (port : ℕ) (came : List ℕ) → HasTaken port came self.now → result ≡ is_marked port came }
+        ensures { (port : ℕ) (read : List ℕ) → HasTaken port read self.now → result ≡ is_marked port read }
     {
         self.marked
     }

@@ -28,7 +28,7 @@ use Rattle.turn_pieces.proofs.PortNumbers.{port_at_index}
 -- no line was asked yet
 pub none_asked : (pieces : PiecesView) (lines : List LineView) (was : BaysView) → LinesAnswer 0 pieces lines was was false
 none_asked pieces lines was = record {
-  asked = record { came = λ a. []; each = λ a line less. absurd (omega arith); rest = λ a le. (refl, refl); line_out = refl; client_in = refl; client_out = refl };
+  asked = record { further = λ a. []; each = λ a line less. absurd (omega arith); rest = λ a le. (refl, refl); line_out = refl; client_in = refl; client_out = refl };
   some = λ e. absurd (cc);
   none = λ e a. refl;
 }
@@ -38,7 +38,7 @@ ask_next : (a : ℕ) (pieces : PiecesView) (lines : List LineView) (line : LineV
     → ByteAnswer (asks_line pieces a line) (line_in_at mid a) (line_in_at is a) answer → LinesAnswer a pieces lines was mid more → LinesAnswer (a + 1) pieces lines was is (more || answer)
 ask_next a pieces lines line was mid is more answer known only h before = record {
   asked = record {
-    came = came;
+    further = further;
     each = λ m other less at. each m other at (eqb_tells m a) less;
     rest = λ m le. let less : m ≢ a = (λ e. absurd (omega (arith, le, e))) in (only.line_in m less ∙ (before.asked.rest m (omega (arith, le))).0, other_came m less ∙ (before.asked.rest m (omega (arith, le))).1);
     line_out = only.line_out ∙ before.asked.line_out;
@@ -49,45 +49,45 @@ ask_next a pieces lines line was mid is more answer known only h before = record
   none = λ e m. none m (eqb_tells m a) (or_parts more answer e);
 }
   where
-    came : ℕ → List ℕ
-    came m = if m == a then h.came else before.asked.came m
+    further : ℕ → List ℕ
+    further m = if m == a then h.further else before.asked.further m
 
-    here_came : came a ≡ h.came
-    here_came = elim (eqb_tells a a) [ inl t ↦ ap (λ b. if b then h.came else before.asked.came a) t.0 | inr t ↦ absurd (t.1 refl) ]
+    here_came : further a ≡ h.further
+    here_came = elim (eqb_tells a a) [ inl t ↦ ap (λ b. if b then h.further else before.asked.further a) t.0 | inr t ↦ absurd (t.1 refl) ]
 
-    other_came : (m : ℕ) → m ≢ a → came m ≡ before.asked.came m
-    other_came m d = elim (eqb_tells m a) [ inl t ↦ absurd (d t.1) | inr t ↦ ap (λ b. if b then h.came else before.asked.came m) t.0 ]
+    other_came : (m : ℕ) → m ≢ a → further m ≡ before.asked.further m
+    other_came m d = elim (eqb_tells m a) [ inl t ↦ absurd (d t.1) | inr t ↦ ap (λ b. if b then h.further else before.asked.further m) t.0 ]
 
     here : line_in_at mid a ≡ line_in_at was a
     here = (before.asked.rest a (omega arith)).0
 
-    asked : ByteAsked (asks_line pieces a line) (line_in_at was a) (line_in_at is a) (came a)
-    asked = subst (ByteAsked (asks_line pieces a line) (line_in_at was a) (line_in_at is a)) (sym here_came) (subst (λ v. ByteAsked (asks_line pieces a line) v (line_in_at is a) h.came) here h.asked)
+    asked : ByteAsked (asks_line pieces a line) (line_in_at was a) (line_in_at is a) (further a)
+    asked = subst (ByteAsked (asks_line pieces a line) (line_in_at was a) (line_in_at is a)) (sym here_came) (subst (λ v. ByteAsked (asks_line pieces a line) v (line_in_at is a) h.further) here h.asked)
 
     each : (m : ℕ) (other : LineView) → slice_get lines m ≡ Some other → (((m == a) ≡ true) × (m ≡ a)) ⊎ (((m == a) ≡ false) × (m ≢ a)) → m < a + 1
-        → ByteAsked (asks_line pieces m other) (line_in_at was m) (line_in_at is m) (came m)
+        → ByteAsked (asks_line pieces m other) (line_in_at was m) (line_in_at is m) (further m)
     each m other at (inl t) less =
         let same : line ≡ other = same_Some line other (sym known ∙ ap (slice_get lines) (sym t.1) ∙ at) in
-        subst (λ k. ByteAsked (asks_line pieces k other) (line_in_at was k) (line_in_at is k) (came k)) (sym t.1)
-        (subst (λ l. ByteAsked (asks_line pieces a l) (line_in_at was a) (line_in_at is a) (came a)) same asked)
+        subst (λ k. ByteAsked (asks_line pieces k other) (line_in_at was k) (line_in_at is k) (further k)) (sym t.1)
+        (subst (λ l. ByteAsked (asks_line pieces a l) (line_in_at was a) (line_in_at is a) (further a)) same asked)
     each m other at (inr t) less =
         let lower : m < a = let d = t.1 in omega (arith, d, less) in
         subst (ByteAsked (asks_line pieces m other) (line_in_at was m) (line_in_at is m)) (sym (other_came m t.1))
-        (subst (λ v. ByteAsked (asks_line pieces m other) (line_in_at was m) v (before.asked.came m)) (sym (only.line_in m t.1)) (before.asked.each m other lower at))
+        (subst (λ v. ByteAsked (asks_line pieces m other) (line_in_at was m) v (before.asked.further m)) (sym (only.line_in m t.1)) (before.asked.each m other lower at))
 
     or_parts : (b c : Bool) → (b || c) ≡ false → (b ≡ false) × (c ≡ false)
     or_parts true c e = absurd (cc)
     or_parts false c e = (refl, e)
 
-    some : (b : Bool) → more ≡ b → (b || answer) ≡ true → (m : ℕ) × (m < a + 1) × (has_come (came m) ≡ true)
+    some : (b : Bool) → more ≡ b → (b || answer) ≡ true → (m : ℕ) × (m < a + 1) × (has_come (further m) ≡ true)
     some true e t =
         let s = before.some e in
         let lower = s.1 in
         (s.0, omega (arith, lower), ap has_come (other_came s.0 (λ same. absurd (omega (arith, lower, same)))) ∙ s.2)
     some false e t = (a, omega arith, ap has_come here_came ∙ sym h.tells ∙ t)
 
-    none : (m : ℕ) → (((m == a) ≡ true) × (m ≡ a)) ⊎ (((m == a) ≡ false) × (m ≢ a)) → (more ≡ false) × (answer ≡ false) → has_come (came m) ≡ false
-    none m (inl t) p = ap (λ k. has_come (came k)) t.1 ∙ ap has_come here_came ∙ sym h.tells ∙ p.1
+    none : (m : ℕ) → (((m == a) ≡ true) × (m ≡ a)) ⊎ (((m == a) ≡ false) × (m ≢ a)) → (more ≡ false) × (answer ≡ false) → has_come (further m) ≡ false
+    none m (inl t) p = ap (λ k. has_come (further k)) t.1 ∙ ap has_come here_came ∙ sym h.tells ∙ p.1
     none m (inr t) p = ap has_come (other_came m t.1) ∙ before.none p.0 m
 
 pub asked_next : {P K : Type 0} (p : source.Ghosts P) (k : sink.Ghosts K) (rack : Rack P K) (x y : InPlaceOf P) (a : ℕ) (pieces : PiecesView) (lines : List LineView) (line : LineView) (was : BaysView) (asks more answer : Bool)

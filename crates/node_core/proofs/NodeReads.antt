@@ -43,11 +43,11 @@ use Rattle.node_links.proofs.Senders.{element_at}
 -- ---- lines
 
 pub counts_told : (node : NodeView) (a : ℕ) (line : LineView) (counts : LineCounts) → HasLineIn node a line
-    → InItsTurn line (λ form given t. counts ≡ numbers_of form line.reader.ending given t line.pieces) → IsLineCounts node a counts
-counts_told node a line counts has told = λ plan first taken now inputs other h may used at.
+    → InItsTurn line (λ form available t. counts ≡ numbers_of form line.reader.ending available t line.pieces) → IsLineCounts node a counts
+counts_told node a line counts has told = λ plan first read now inputs other h may used at.
     let same : other ≡ line = one_at node.lines_in a other line at has in
     let stood = h.ports (port.LineIn a) line has used in
-    rw same (told (line_in_at now a) (form_in plan a) (line_in_at first a) (taken.line a) node.past stood.0 (inputs.line a) (may.lines a line has used))
+    rw same (told (line_in_at now a) (form_in plan a) (line_in_at first a) (read.line a) node.past stood.0 (inputs.line a) (may.lines a line has used))
 
 pub frames_told : (node : NodeView) (b : ℕ) (line : LineOutView) (frames : ℕ) → HasLineOut node b line → frames ≡ line.frames → IsFrameCount node b frames
 frames_told node b line frames has told = λ other at. told ∙ ap (λ (l : LineOutView). l.frames) (one_at node.lines_out b line other has at)
@@ -133,33 +133,33 @@ pub client_in_told : (node : NodeView) (n i : ℕ) (link : Link) (t : ℕ × Boo
     → (is_later node.past link ≡ false
     → OfItsClient link (λ x input emitted. t ≡ (saturated (packets_begun input.packets x.fcs emitted), is_spent input x.fcs emitted, option_map saturated (bad_line input x.fcs emitted))))
     → IsClientInCount node n (record { packets = t.0; spent = t.1; bad = t.2 })
-client_in_told node n i link t found has later told = λ plan first taken now inputs x h may is_of from.
+client_in_told node n i link t found has later told = λ plan first read now inputs x h may is_of from.
     let p = h.plan_stands in
     let same : is_of.0 ≡ i = sym (found_at plan node (port.ClientIn n) i is_of.0 x link refl p has (found.is.1 link has) (entry_of plan x is_of) (touched_in n x from)) in
     let at_i : slice_get plan.connections i ≡ Some x = subst (λ k. slice_get plan.connections k ≡ Some x) same (entry_of plan x is_of) in
     let is = p.links i x link at_i has in
     let pieces = done_at node (port.ClientIn n) in
     let k = turns_done x node.past pieces in
-    by_start plan first taken now inputs x h may at_i is pieces k from (is_later node.past link) refl
+    by_start plan first read now inputs x h may at_i is pieces k from (is_later node.past link) refl
   where
-    by_start : (plan : Plan) (first : BaysView) (taken : InputBytes) (now : BaysView) (inputs : Inputs) (x : Connection) → StandsAt plan first taken node now → MayGive plan taken node inputs → slice_get plan.connections i ≡ Some x
+    by_start : (plan : Plan) (first : BaysView) (read : InputBytes) (now : BaysView) (inputs : Inputs) (x : Connection) → StandsAt plan first read node now → MayGive plan read node inputs → slice_get plan.connections i ≡ Some x
         → IsLinkOf x link → (pieces k : ℕ) → x.from ≡ from_end.Client n → (test : Bool) → is_later node.past link ≡ test
         → ◌≡◌ {A = ClientInNumbers} (record { packets = t.0; spent = t.1; bad = t.2 }) (client_numbers_by x (inputs.client n) (emitted_before x.pace (turns_done x node.past (done_at node (port.ClientIn n)))))
-    by_start plan first taken now inputs x h may at_i is pieces k from true e =
+    by_start plan first read now inputs x h may at_i is pieces k from true e =
         let start = start_as x link is in
         let before : node.past + 1 < x.start = grind (arith, nat_tests) in
         let none : emitted_before x.pace (turns_done x node.past (done_at node (port.ClientIn n))) ≡ 0 =
         ap (emitted_before x.pace) (no_turns x node.past (done_at node (port.ClientIn n)) before) ∙ none_emitted x.pace in
         rw none (text_numbers x (inputs.client n) 0 t (later e ∙ none_yet x (inputs.client n)))
-    by_start plan first taken now inputs x h may at_i is pieces k from false e =
+    by_start plan first read now inputs x h may at_i is pieces k from false e =
         let start = start_as x link is in
         let begun : x.start ≤ node.past + 1 = grind (arith, nat_tests) in
         let s = (h.ports (port.ClientIn n)).started i x link at_i has (touched_in n x from) begun in
         text_numbers x (inputs.client n) (emitted_before x.pace (turns_done x node.past (done_at node (port.ClientIn n)))) t
-        (told e x (client_in_at first n) s.was (taken.client n) (turns_done x node.past (done_at node (port.ClientIn n))) (inputs.client n) s.stands (may.clients i n x link at_i has from begun))
+        (told e x (client_in_at first n) s.was (read.client n) (turns_done x node.past (done_at node (port.ClientIn n))) (inputs.client n) s.stands (may.clients i n x link at_i has from begun))
 
 pub client_in_none : (node : NodeView) (n : ℕ) (counts : ClientInNumbers) → FirstOf (joins (port.ClientIn n)) node.links None → IsClientInCount node n counts
-client_in_none node n counts found = λ plan first taken now inputs x h may is_of from. absurd (none_at plan node (port.ClientIn n) is_of.0 x h.plan_stands found.is (entry_of plan x is_of) (touched_in n x from))
+client_in_none node n counts found = λ plan first read now inputs x h may is_of from. absurd (none_at plan node (port.ClientIn n) is_of.0 x h.plan_stands found.is (entry_of plan x is_of) (touched_in n x from))
 
 to_part : (n : ℕ) (part : GivingPart) → GivesTo (to_end.Client n) part → IsToClient part
 to_part n (giving.Line source) h = absurd h
@@ -167,7 +167,7 @@ to_part n (giving.Client receiver) h = tt
 
 pub client_out_told : (node : NodeView) (n i : ℕ) (link : Link) (t : ℕ × ℕ) → FirstOf (joins (port.ClientOut n)) node.links (Some i) → HasLink node i link
     → (IsToClient link.pipe.giving → IsReceived link.pipe.giving t) → IsClientOutCount node n (record { frames = t.0; packets = t.1 })
-client_out_told node n i link t found has told = λ plan first taken now j x other h at_j had to.
+client_out_told node n i link t found has told = λ plan first read now j x other h at_j had to.
     let p = h.plan_stands in
     let same : j ≡ i = sym (found_at plan node (port.ClientOut n) i j x link refl p has (found.is.1 link has) at_j (touched_out n x to)) in
     let one : other ≡ link = one_at node.links i other link (subst (λ k. slice_get node.links k ≡ Some other) same had) has in
@@ -175,7 +175,7 @@ client_out_told node n i link t found has told = λ plan first taken now j x oth
     rw one (told (subst (λ (l : Link). IsToClient l.pipe.giving) one gives))
 
 pub client_out_none : (node : NodeView) (n : ℕ) (t : ℕ × ℕ) → FirstOf (joins (port.ClientOut n)) node.links None → IsClientOutCount node n (record { frames = t.0; packets = t.1 })
-client_out_none node n t found = λ plan first taken now j x other h at_j had to. absurd (none_at plan node (port.ClientOut n) j x h.plan_stands found.is at_j (touched_out n x to))
+client_out_none node n t found = λ plan first read now j x other h at_j had to. absurd (none_at plan node (port.ClientOut n) j x h.plan_stands found.is at_j (touched_out n x to))
 
 -- ---- connections
 
@@ -212,8 +212,8 @@ both_so past start stop low high = grind (arith, nat_tests)
 
 pub state_told : (node : NodeView) (i : ℕ) (link : Link) (state : Option FromState) → HasLink node i link → is_some state ≡ was_on node.past link
     → (was_on node.past link ≡ true → OfItsTurns link (λ x input turns. state ≡ Some (state_in x input turns))) → IsLastState node i state
-state_told node i link state has some told = λ plan first taken now inputs x h may at_i.
-    by_turn plan first taken now inputs x h may at_i (h.plan_stands.links i x link at_i has) (was_on node.past link) refl
+state_told node i link state has some told = λ plan first read now inputs x h may at_i.
+    by_turn plan first read now inputs x h may at_i (h.plan_stands.links i x link at_i has) (was_on node.past link) refl
   where
     was_as : (x : Connection) → IsLinkOf x link → was_on node.past link ≡ (nat_le 1 node.past && (nat_le x.start node.past && nat_le node.past x.stop))
     was_as x is = ap (λ (y : Connection). nat_le 1 node.past && (nat_le y.start node.past && nat_le node.past y.stop)) is.entry
@@ -221,12 +221,12 @@ state_told node i link state has some told = λ plan first taken now inputs x h 
     active_then : (x : Connection) → x.start ≤ node.past → node.past ≤ x.stop → x.stop ≢ node.past → IsActive x node.past
     active_then x low high other = record { start = omega arith; stop = omega (arith, other) }
 
-    by_turn : (plan : Plan) (first : BaysView) (taken : InputBytes) (now : BaysView) (inputs : Inputs) (x : Connection) → StandsAt plan first taken node now → MayGive plan taken node inputs → slice_get plan.connections i ≡ Some x
+    by_turn : (plan : Plan) (first : BaysView) (read : InputBytes) (now : BaysView) (inputs : Inputs) (x : Connection) → StandsAt plan first read node now → MayGive plan read node inputs → slice_get plan.connections i ≡ Some x
         → IsLinkOf x link → (on : Bool) → was_on node.past link ≡ on → state ≡ state_after_turn node.past x (own_input inputs x)
-    by_turn plan first taken now inputs x h may at_i is false e =
+    by_turn plan first read now inputs x h may at_i is false e =
         let off : (nat_le x.start node.past && nat_le node.past x.stop) ≡ false = off_then node.past x.start x.stop is.first (sym (was_as x is) ∙ e) in
         nothing state (some ∙ e) ∙ ap (λ b. if b then Some (state_in x (own_input inputs x) (node.past - first_turn x)) else None) (sym off)
-    by_turn plan first taken now inputs x h may at_i is true e =
+    by_turn plan first read now inputs x h may at_i is true e =
         let span = on_then node.past x.start x.stop (sym (was_as x is) ∙ e) in
         let low = span.0 in
         let high = span.1 in

@@ -16,7 +16,7 @@ use Rattle.plan_file.specs.declared.plan.Plan.{Plan}
 use Rattle.device_model.specs.Entries.{form_out}
 use Rattle.device_model.specs.LineFiles.{AreFramesOf, IsLineFile}
 use Rattle.device_model.specs.Moments.{uses, turns_done, client_due}
-use Rattle.device_model.specs.Numbers.{Went, counted_packets}
+use Rattle.device_model.specs.Numbers.{OutputBytes, counted_packets}
 use Rattle.device_model.specs.Through.{Inputs, own_input, arrived_by}
 use Rattle.cross_matrix.specs.Parts.{OnReceiver, ClientOutStands, IsReceived}
 use Rattle.cross_matrix.specs.Receiving.{ReceiverView, ReceiverStands}
@@ -38,7 +38,7 @@ use Rattle.node_moments.proofs.Parts.{one_at}
 use Rattle.turn_pieces.proofs.UsedPorts.{used_within}
 use Rattle.node_links.proofs.Senders.{element_at}
 
-left_of : (first : OutView) (due : List ℕ) (last : OutView) → (s : IsSent first due last) → OutputLeft first due s.went last
+left_of : (first : OutView) (due : List ℕ) (last : OutView) → (s : IsSent first due last) → OutputLeft first due s.written last
 left_of first due last s = record { rest = s.rest; parts = s.parts; gained = s.gained; whole = s.whole }
 
 -- ---- lines
@@ -57,9 +57,9 @@ line_within b h = grind (arith, nat_tests)
 all_frames : (size past turns done : ℕ) → past ≡ turns → done ≡ 0 → size * past + done ≡ size * turns
 all_frames size past turns done e f = rw (e, f) (omega arith)
 
-pub line_at_end : (plan : Plan) (first : BaysView) (taken : InputBytes) (node : NodeView) (now : BaysView) (inputs : Inputs) → length node.lines_out ≡ LINES → StandsAt plan first taken node now → node.turns ≤ node.past
-    → MayGive plan taken node inputs → (b : ℕ) → uses plan (port.LineOut b) ≡ true → LineAtEnd plan inputs b (line_out_at first b) (line_out_at now b) node
-line_at_end plan first taken node now inputs lines h over may b used =
+pub line_at_end : (plan : Plan) (first : BaysView) (read : InputBytes) (node : NodeView) (now : BaysView) (inputs : Inputs) → length node.lines_out ≡ LINES → StandsAt plan first read node now → node.turns ≤ node.past
+    → MayGive plan read node inputs → (b : ℕ) → uses plan (port.LineOut b) ≡ true → LineAtEnd plan inputs b (line_out_at first b) (line_out_at now b) node
+line_at_end plan first read node now inputs lines h over may b used =
     let p = h.plan_stands in
     let within : b < 4 = line_within b (used_within plan (port.LineOut b) p.accepted used) in
     let line = element_at node.lines_out b (omega (arith, lines)) in
@@ -73,7 +73,7 @@ line_at_end plan first taken node now inputs lines h over may b used =
       made = stood.2;
     }
 
-line_left : (plan : Plan) (inputs : Inputs) (b : ℕ) (first now : OutView) (node : NodeView) → (l : LineAtEnd plan inputs b first now node) → LineOutLeft plan inputs b first l.made.sent.went now
+line_left : (plan : Plan) (inputs : Inputs) (b : ℕ) (first now : OutView) (node : NodeView) → (l : LineAtEnd plan inputs b first now node) → LineOutLeft plan inputs b first l.made.sent.written now
 line_left plan inputs b first now node l = record {
   due = through_mask (form_out plan b).scrambled (concat l.made.made);
   is_due = record {
@@ -85,15 +85,15 @@ line_left plan inputs b first now node l = record {
 }
 
 -- what went to a line, by which its frames count
-pub record LineWent (plan : Plan) (inputs : Inputs) (b : ℕ) (first now : OutView) (node : NodeView) (went : List ℕ) : Type 0 where
-  pub left : LineOutLeft plan inputs b first went now
+pub record LineWent (plan : Plan) (inputs : Inputs) (b : ℕ) (first now : OutView) (node : NodeView) (written : List ℕ) : Type 0 where
+  pub left : LineOutLeft plan inputs b first written now
   pub line : LineOutView
   pub has : HasLineOut node b line
   pub frames : List (List ℕ)
   pub file : IsLineFile plan inputs b (size_of (form_out plan b) * plan.turns) frames
-  pub counts : line.frames ≡ saturated (counted_frames first.state frames went)
+  pub counts : line.frames ≡ saturated (counted_frames first.state frames written)
 
-line_went : (plan : Plan) (inputs : Inputs) (b : ℕ) (first now : OutView) (node : NodeView) → (l : LineAtEnd plan inputs b first now node) → LineWent plan inputs b first now node l.made.sent.went
+line_went : (plan : Plan) (inputs : Inputs) (b : ℕ) (first now : OutView) (node : NodeView) → (l : LineAtEnd plan inputs b first now node) → LineWent plan inputs b first now node l.made.sent.written
 line_went plan inputs b first now node l = record {
   left = line_left plan inputs b first now node l;
   line = l.line;
@@ -104,13 +104,13 @@ line_went plan inputs b first now node l = record {
 }
 
 -- of any line, if it is used
-pub some_line : (plan : Plan) (first : BaysView) (taken : InputBytes) (node : NodeView) (now : BaysView) (inputs : Inputs) → length node.lines_out ≡ LINES → StandsAt plan first taken node now → node.turns ≤ node.past
-    → MayGive plan taken node inputs → (b : ℕ) → (v : Bool) → uses plan (port.LineOut b) ≡ v
-    → (went : List ℕ) × (uses plan (port.LineOut b) ≡ true → LineWent plan inputs b (line_out_at first b) (line_out_at now b) node went)
-some_line plan first taken node now inputs lines h over may b true e =
-    let l = line_at_end plan first taken node now inputs lines h over may b e in
-    (l.made.sent.went, λ used. line_went plan inputs b (line_out_at first b) (line_out_at now b) node l)
-some_line plan first taken node now inputs lines h over may b false e = ([], λ used. absurd (cc (e, used)))
+pub some_line : (plan : Plan) (first : BaysView) (read : InputBytes) (node : NodeView) (now : BaysView) (inputs : Inputs) → length node.lines_out ≡ LINES → StandsAt plan first read node now → node.turns ≤ node.past
+    → MayGive plan read node inputs → (b : ℕ) → (v : Bool) → uses plan (port.LineOut b) ≡ v
+    → (written : List ℕ) × (uses plan (port.LineOut b) ≡ true → LineWent plan inputs b (line_out_at first b) (line_out_at now b) node written)
+some_line plan first read node now inputs lines h over may b true e =
+    let l = line_at_end plan first read node now inputs lines h over may b e in
+    (l.made.sent.written, λ used. line_went plan inputs b (line_out_at first b) (line_out_at now b) node l)
+some_line plan first read node now inputs lines h over may b false e = ([], λ used. absurd (cc (e, used)))
 
 -- ---- clients
 
@@ -130,10 +130,10 @@ pub record ClientAtEnd (plan : Plan) (inputs : Inputs) (i : ℕ) (x : Connection
   pub at : ReceiverAt link.pipe.giving first was (arrived_by x (own_input inputs x) (turns_done x plan.turns 0))
   pub place : now ≡ out_after_retire x.retire was
 
-pub client_at_end : (plan : Plan) (first : BaysView) (taken : InputBytes) (node : NodeView) (now : BaysView) (inputs : Inputs) → StandsAt plan first taken node now → node.turns ≤ node.past → MayGive plan taken node inputs
+pub client_at_end : (plan : Plan) (first : BaysView) (read : InputBytes) (node : NodeView) (now : BaysView) (inputs : Inputs) → StandsAt plan first read node now → node.turns ≤ node.past → MayGive plan read node inputs
     → (i n : ℕ) (x : Connection) (link : Link) → slice_get plan.connections i ≡ Some x → HasLink node i link → x.to ≡ to_end.Client n
     → ClientAtEnd plan inputs i x link (client_out_at first n) (client_out_at now n)
-client_at_end plan first taken node now inputs h over may i n x link at has to =
+client_at_end plan first read node now inputs h over may i n x link at has to =
     let p = h.plan_stands in
     let end = is_past plan node i x p over at in
     let s = (h.ports (port.ClientOut n)).started i x link at has (touched_out n x to) end.start in
@@ -148,7 +148,7 @@ client_at_end plan first taken node now inputs h over may i n x link at has to =
     }
 
 client_left : (plan : Plan) (inputs : Inputs) (i : ℕ) (x : Connection) (link : Link) (first now : OutView) → (c : ClientAtEnd plan inputs i x link first now)
-    → ClientOutLeft plan inputs x first c.at.stands.sent.went now
+    → ClientOutLeft plan inputs x first c.at.stands.sent.written now
 client_left plan inputs i x link first now c = record {
   was = c.was;
   left = left_of first (client_due x (own_input inputs x) plan.turns 0) c.was c.at.stands.sent;
@@ -156,17 +156,17 @@ client_left plan inputs i x link first now c = record {
 }
 
 -- what went to a client, by which its packets count
-pub record ClientWent (plan : Plan) (inputs : Inputs) (x : Connection) (first now : OutView) (node : NodeView) (went : List ℕ) : Type 0 where
-  pub left : ClientOutLeft plan inputs x first went now
+pub record ClientWent (plan : Plan) (inputs : Inputs) (x : Connection) (first now : OutView) (node : NodeView) (written : List ℕ) : Type 0 where
+  pub left : ClientOutLeft plan inputs x first written now
   pub i : ℕ
   pub link : Link
   pub at_i : slice_get plan.connections i ≡ Some x
   pub has : HasLink node i link
   pub counts : (numbers : ℕ × ℕ) → IsReceived link.pipe.giving numbers
-      → numbers ≡ (saturated (arriving_frames (arrived_by x (own_input inputs x) (turns_done x plan.turns 0))), saturated (counted_packets first.state (arriving_packets (arrived_by x (own_input inputs x) (turns_done x plan.turns 0))) went))
+      → numbers ≡ (saturated (arriving_frames (arrived_by x (own_input inputs x) (turns_done x plan.turns 0))), saturated (counted_packets first.state (arriving_packets (arrived_by x (own_input inputs x) (turns_done x plan.turns 0))) written))
 
 client_went : (plan : Plan) (inputs : Inputs) (i : ℕ) (x : Connection) (link : Link) (first now : OutView) (node : NodeView) → slice_get plan.connections i ≡ Some x → HasLink node i link
-    → (c : ClientAtEnd plan inputs i x link first now) → ClientWent plan inputs x first now node c.at.stands.sent.went
+    → (c : ClientAtEnd plan inputs i x link first now) → ClientWent plan inputs x first now node c.at.stands.sent.written
 client_went plan inputs i x link first now node at has c = record {
   left = client_left plan inputs i x link first now c;
   i = i;
@@ -181,20 +181,20 @@ client_went plan inputs i x link first now node at has c = record {
     both e f = rw (e, f) refl
 
 -- of any client, if a connection goes to it
-pub some_client : (plan : Plan) (first : BaysView) (taken : InputBytes) (node : NodeView) (now : BaysView) (inputs : Inputs) → StandsAt plan first taken node now → node.turns ≤ node.past → MayGive plan taken node inputs → (n : ℕ)
-    → (went : List ℕ) × ((x : Connection) → Contains plan.connections x → x.to ≡ to_end.Client n → ClientWent plan inputs x (client_out_at first n) (client_out_at now n) node went)
-some_client plan first taken node now inputs h over may n = elim (one_or_none (joins (port.ClientOut n)) node.links) [
+pub some_client : (plan : Plan) (first : BaysView) (read : InputBytes) (node : NodeView) (now : BaysView) (inputs : Inputs) → StandsAt plan first read node now → node.turns ≤ node.past → MayGive plan read node inputs → (n : ℕ)
+    → (written : List ℕ) × ((x : Connection) → Contains plan.connections x → x.to ≡ to_end.Client n → ClientWent plan inputs x (client_out_at first n) (client_out_at now n) node written)
+some_client plan first read node now inputs h over may n = elim (one_or_none (joins (port.ClientOut n)) node.links) [
   | inl s ↦
       let p = h.plan_stands in
       let e = entry_at plan node s.i s.link p s.known in
       let goes : e.0.to ≡ to_end.Client n = to_client n e.0.to (sym (joins_as (port.ClientOut n) e.0 s.link e.1.1) ∙ s.passes) in
-      let c = client_at_end plan first taken node now inputs h over may s.i n e.0 s.link e.1.0 s.known goes in (
-        c.at.stands.sent.went,
+      let c = client_at_end plan first read node now inputs h over may s.i n e.0 s.link e.1.0 s.known goes in (
+        c.at.stands.sent.written,
         λ x is_of to.
             let same : is_of.0 ≡ s.i = sym (found_at plan node (port.ClientOut n) s.i is_of.0 x s.link refl p s.known s.passes (entry_of plan x is_of) (touched_out n x to)) in
             let at_i : slice_get plan.connections s.i ≡ Some x = subst (λ k. slice_get plan.connections k ≡ Some x) same (entry_of plan x is_of) in
             let one : e.0 ≡ x = one_at plan.connections s.i e.0 x e.1.0 at_i in
-            subst (λ y. ClientWent plan inputs y (client_out_at first n) (client_out_at now n) node c.at.stands.sent.went) one
+            subst (λ y. ClientWent plan inputs y (client_out_at first n) (client_out_at now n) node c.at.stands.sent.written) one
             (client_went plan inputs s.i e.0 s.link (client_out_at first n) (client_out_at now n) node e.1.0 s.known c),
       )
   | inr none ↦ ([], λ x is_of to. absurd (none_at plan node (port.ClientOut n) is_of.0 x h.plan_stands none (entry_of plan x is_of) (touched_out n x to)))
@@ -203,21 +203,21 @@ some_client plan first taken node now inputs h over may n = elim (one_or_none (j
 -- ---- all
 
 -- what went to each output that the plan uses
-pub record AllWent (plan : Plan) (inputs : Inputs) (first now : BaysView) (node : NodeView) (went : Went) : Type 0 where
-  pub line : (b : ℕ) → uses plan (port.LineOut b) ≡ true → LineWent plan inputs b (line_out_at first b) (line_out_at now b) node (went.line b)
-  pub client : (x : Connection) (n : ℕ) → Contains plan.connections x → x.to ≡ to_end.Client n → ClientWent plan inputs x (client_out_at first n) (client_out_at now n) node (went.client n)
+pub record AllWent (plan : Plan) (inputs : Inputs) (first now : BaysView) (node : NodeView) (written : OutputBytes) : Type 0 where
+  pub line : (b : ℕ) → uses plan (port.LineOut b) ≡ true → LineWent plan inputs b (line_out_at first b) (line_out_at now b) node (written.line b)
+  pub client : (x : Connection) (n : ℕ) → Contains plan.connections x → x.to ≡ to_end.Client n → ClientWent plan inputs x (client_out_at first n) (client_out_at now n) node (written.client n)
 
-pub all_went : (plan : Plan) (first : BaysView) (taken : InputBytes) (node : NodeView) (now : BaysView) (inputs : Inputs) → length node.lines_out ≡ LINES → StandsAt plan first taken node now → node.turns ≤ node.past
-    → MayGive plan taken node inputs → (went : Went) × AllWent plan inputs first now node went
-all_went plan first taken node now inputs lines h over may =
-    let line = λ (b : ℕ). some_line plan first taken node now inputs lines h over may b (uses plan (port.LineOut b)) refl in
-    let client = some_client plan first taken node now inputs h over may in (
+pub all_went : (plan : Plan) (first : BaysView) (read : InputBytes) (node : NodeView) (now : BaysView) (inputs : Inputs) → length node.lines_out ≡ LINES → StandsAt plan first read node now → node.turns ≤ node.past
+    → MayGive plan read node inputs → (written : OutputBytes) × AllWent plan inputs first now node written
+all_went plan first read node now inputs lines h over may =
+    let line = λ (b : ℕ). some_line plan first read node now inputs lines h over may b (uses plan (port.LineOut b)) refl in
+    let client = some_client plan first read node now inputs h over may in (
       record { line = λ b. (line b).0; client = λ n. (client n).0 },
       record { line = λ b used. (line b).1 used; client = λ x n is_of to. (client n).1 x is_of to },
     )
 
-pub outputs_left : (plan : Plan) (inputs : Inputs) (first now : BaysView) (node : NodeView) (went : Went) → AllWent plan inputs first now node went → OutputsLeft plan inputs first went now
-outputs_left plan inputs first now node went all = record {
+pub outputs_left : (plan : Plan) (inputs : Inputs) (first now : BaysView) (node : NodeView) (written : OutputBytes) → AllWent plan inputs first now node written → OutputsLeft plan inputs first written now
+outputs_left plan inputs first now node written all = record {
   line = λ b used. (all.line b used).left;
   client = λ x n is_of to. (all.client x n is_of to).left;
 }

@@ -19,10 +19,10 @@ use Rattle.device_model.proofs.SettledLines.{rest_settled}
 
 -- the bytes after the last whole frame of a line that is used are counted as its place and the turns of the plan have
 -- it in the end
-pub rest_at_end : (plan : Plan) (first was last : BaysView) (taken : InputBytes) (node : NodeView) (inputs : Inputs) (a : ℕ) (line : LineView) → node.turns ≤ node.past → StandsAt plan first taken node was
-    → LinesAsked LINES node.pieces node.lines_in was last → MayGive plan taken node inputs → uses plan (port.LineIn a) ≡ true → HasLineIn node a line
+pub rest_at_end : (plan : Plan) (first was last : BaysView) (read : InputBytes) (node : NodeView) (inputs : Inputs) (a : ℕ) (line : LineView) → node.turns ≤ node.past → StandsAt plan first read node was
+    → LinesAsked LINES node.pieces node.lines_in was last → MayGive plan read node inputs → uses plan (port.LineIn a) ≡ true → HasLineIn node a line
     → rest_of line.reader.ending (inputs.line a) ≡ rest_of (line_ending (place_state last (port.LineIn a)) (form_in plan a) (inputs.line a) plan.turns) (inputs.line a)
-rest_at_end plan first was last taken node inputs a line over st asked may used has =
-    let u = used_line_at plan first was last taken node a line over st asked used has in
-    rest_settled (form_in plan a) (line_in_at first a) (line_in_at was a) (line_in_at last a) (taken.line a) (asked.came a) (inputs.line a) node.past line u.stands u.none u.asked (may.lines a line has used)
+rest_at_end plan first was last read node inputs a line over st asked may used has =
+    let u = used_line_at plan first was last read node a line over st asked used has in
+    rest_settled (form_in plan a) (line_in_at first a) (line_in_at was a) (line_in_at last a) (read.line a) (asked.further a) (inputs.line a) node.past line u.stands u.none u.asked (may.lines a line has used)
     ∙ ap (λ t. rest_of (line_ending (place_state last (port.LineIn a)) (form_in plan a) (inputs.line a) t) (inputs.line a)) (turns_past plan node st.plan_stands over)

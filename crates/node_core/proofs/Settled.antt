@@ -62,14 +62,14 @@ contains xs i x at = (i, slice_get_within xs i x at, get_or_from_slice_get xs i 
 
 -- ---- a line that is used
 
-pub record LineUsed (plan : Plan) (first was is : BaysView) (taken : InputBytes) (node : NodeView) (a : ℕ) (came : List ℕ) (line : LineView) : Type 0 where
-  pub stands : LineStands (form_in plan a) (line_in_at first a) (line_in_at was a) (taken.line a) node.past line
+pub record LineUsed (plan : Plan) (first was is : BaysView) (read : InputBytes) (node : NodeView) (a : ℕ) (further : List ℕ) (line : LineView) : Type 0 where
+  pub stands : LineStands (form_in plan a) (line_in_at first a) (line_in_at was a) (read.line a) node.past line
   pub none : line.pieces ≡ 0
-  pub asked : ByteAsked (not (is_seen line.reader.ending)) (line_in_at was a) (line_in_at is a) came
+  pub asked : ByteAsked (not (is_seen line.reader.ending)) (line_in_at was a) (line_in_at is a) further
 
-pub used_line_at : (plan : Plan) (first was is : BaysView) (taken : InputBytes) (node : NodeView) (a : ℕ) (line : LineView) → node.turns ≤ node.past → StandsAt plan first taken node was
-    → (asked : LinesAsked LINES node.pieces node.lines_in was is) → uses plan (port.LineIn a) ≡ true → HasLineIn node a line → LineUsed plan first was is taken node a (asked.came a) line
-used_line_at plan first was is taken node a line over st asked used has =
+pub used_line_at : (plan : Plan) (first was is : BaysView) (read : InputBytes) (node : NodeView) (a : ℕ) (line : LineView) → node.turns ≤ node.past → StandsAt plan first read node was
+    → (asked : LinesAsked LINES node.pieces node.lines_in was is) → uses plan (port.LineIn a) ≡ true → HasLineIn node a line → LineUsed plan first was is read node a (asked.further a) line
+used_line_at plan first was is read node a line over st asked used has =
     let p = st.plan_stands in
     let h = st.ports (port.LineIn a) line has used in
     let less : a < LINES = (line_in_index a (used_within plan (port.LineIn a) p.accepted used)).0 in
@@ -77,22 +77,22 @@ used_line_at plan first was is taken node a line over st asked used has =
     record {
       stands = h.0;
       none = h.1 ∙ p.over over (port.LineIn a);
-      asked = subst (λ b. ByteAsked b (line_in_at was a) (line_in_at is a) (asked.came a)) asks (asked.each a line less has);
+      asked = subst (λ b. ByteAsked b (line_in_at was a) (line_in_at is a) (asked.further a)) asks (asked.each a line less has);
     }
 
 -- the line that it is
-pub record UsedLine (plan : Plan) (first was is : BaysView) (taken : InputBytes) (node : NodeView) (a : ℕ) (came : List ℕ) : Type 0 where
+pub record UsedLine (plan : Plan) (first was is : BaysView) (read : InputBytes) (node : NodeView) (a : ℕ) (further : List ℕ) : Type 0 where
   pub line : LineView
   pub has : HasLineIn node a line
-  pub used : LineUsed plan first was is taken node a came line
+  pub used : LineUsed plan first was is read node a further line
 
-pub used_line : (plan : Plan) (first was is : BaysView) (taken : InputBytes) (node : NodeView) (a : ℕ) → IsNode node → node.turns ≤ node.past → StandsAt plan first taken node was
-    → (asked : LinesAsked LINES node.pieces node.lines_in was is) → uses plan (port.LineIn a) ≡ true → UsedLine plan first was is taken node a (asked.came a)
-used_line plan first was is taken node a n over st asked used =
+pub used_line : (plan : Plan) (first was is : BaysView) (read : InputBytes) (node : NodeView) (a : ℕ) → IsNode node → node.turns ≤ node.past → StandsAt plan first read node was
+    → (asked : LinesAsked LINES node.pieces node.lines_in was is) → uses plan (port.LineIn a) ≡ true → UsedLine plan first was is read node a (asked.further a)
+used_line plan first was is read node a n over st asked used =
     let less : a < 4 = (line_in_index a (used_within plan (port.LineIn a) st.plan_stands.accepted used)).0 in
     let count = n.lines_in in
     let line = element_at node.lines_in a (omega (arith, less, count)) in
-    record { line = line.0; has = line.1; used = used_line_at plan first was is taken node a line.0 over st asked used line.1 }
+    record { line = line.0; has = line.1; used = used_line_at plan first was is read node a line.0 over st asked used line.1 }
 
 -- one that is not used was not asked
 line_idle : (plan : Plan) (was is : BaysView) (node : NodeView) (a : ℕ) → IsNode node → PlanStands plan node → LinesAsked LINES node.pieces node.lines_in was is → uses plan (port.LineIn a) ≡ false
@@ -108,9 +108,9 @@ line_idle plan was is node a n p asked unused = go (nat_lt a 4) refl
         ((asked.each a line.0 less line.1).quiet (ap (λ b. b && not (is_seen line.0.reader.ending)) (wanted_used plan node (port.LineIn a) p ∙ unused))).0
 
 -- a line of which a byte came is used
-came_used : (plan : Plan) (was is : BaysView) (node : NodeView) (a : ℕ) → IsNode node → PlanStands plan node → (asked : LinesAsked LINES node.pieces node.lines_in was is) → a < 4 → has_come (asked.came a) ≡ true
+came_used : (plan : Plan) (was is : BaysView) (node : NodeView) (a : ℕ) → IsNode node → PlanStands plan node → (asked : LinesAsked LINES node.pieces node.lines_in was is) → a < 4 → has_come (asked.further a) ≡ true
     → uses plan (port.LineIn a) ≡ true
-came_used plan was is node a n p asked less came = go (uses plan (port.LineIn a)) refl
+came_used plan was is node a n p asked less further = go (uses plan (port.LineIn a)) refl
   where
     go : (b : Bool) → uses plan (port.LineIn a) ≡ b → b ≡ true
     go true e = refl
@@ -118,19 +118,19 @@ came_used plan was is node a n p asked less came = go (uses plan (port.LineIn a)
         let count = n.lines_in in
         let line = element_at node.lines_in a (omega (arith, less, count)) in
         let none = ((asked.each a line.0 less line.1).quiet (ap (λ b. b && not (is_seen line.0.reader.ending)) (wanted_used plan node (port.LineIn a) p ∙ e))).1 in
-        sym (ap has_come none) ∙ came
+        sym (ap has_come none) ∙ further
 
 -- ---- a client that is used
 
 -- what is known of the client of a connection
-pub record UsedClient (plan : Plan) (first was : BaysView) (taken : InputBytes) (node : NodeView) (x : Connection) (n : ℕ) (link : Link) : Type 0 where
-  pub at_end : ClientAt after_retire (GivesText first taken n x link) (client_in_at was n) x node.past (done_at node (port.ClientIn n))
+pub record UsedClient (plan : Plan) (first was : BaysView) (read : InputBytes) (node : NodeView) (x : Connection) (n : ℕ) (link : Link) : Type 0 where
+  pub at_end : ClientAt after_retire (GivesText first read n x link) (client_in_at was n) x node.past (done_at node (port.ClientIn n))
   pub retired : is_retired x node.past ≡ x.retire
   pub done : turns_done x node.past (done_at node (port.ClientIn n)) ≡ x.stop - first_turn x
 
-used_client : (plan : Plan) (first was : BaysView) (taken : InputBytes) (node : NodeView) (i n : ℕ) (x : Connection) (link : Link) → node.turns ≤ node.past → StandsAt plan first taken node was
-    → slice_get plan.connections i ≡ Some x → HasLink node i link → x.from ≡ from_end.Client n → UsedClient plan first was taken node x n link
-used_client plan first was taken node i n x link over st at has from =
+used_client : (plan : Plan) (first was : BaysView) (read : InputBytes) (node : NodeView) (i n : ℕ) (x : Connection) (link : Link) → node.turns ≤ node.past → StandsAt plan first read node was
+    → slice_get plan.connections i ≡ Some x → HasLink node i link → x.from ≡ from_end.Client n → UsedClient plan first was read node x n link
+used_client plan first was read node i n x link over st at has from =
     let p = st.plan_stands in
     let sound : IsSoundEntry plan x = (sound_plan plan p.accepted).entries i x at in
     let span = sound.span in
@@ -144,61 +144,61 @@ used_client plan first was taken node i n x link over st at has from =
     }
 
 -- its place at the end
-client_place : (plan : Plan) (first was is : BaysView) (taken : InputBytes) (node : NodeView) (x : Connection) (n : ℕ) (link : Link) → is.client_in ≡ was.client_in → (u : UsedClient plan first was taken node x n link)
+client_place : (plan : Plan) (first was is : BaysView) (read : InputBytes) (node : NodeView) (x : Connection) (n : ℕ) (link : Link) → is.client_in ≡ was.client_in → (u : UsedClient plan first was read node x n link)
     → client_in_at is n ≡ after_retire x.retire u.at_end.was
-client_place plan first was is taken node x n link same u = ap (λ l. get_or l n no_input) same ∙ u.at_end.place ∙ ap (λ b. after_retire b u.at_end.was) u.retired
+client_place plan first was is read node x n link same u = ap (λ l. get_or l n no_input) same ∙ u.at_end.place ∙ ap (λ b. after_retire b u.at_end.was) u.retired
 
 -- ---- what was taken
 
-abbrev takings_of : (taken : InputBytes) → (came : ℕ → List ℕ) → NodeView → (first is : BaysView) → Takings
-takings_of taken came node first is = record {
-  line = λ a. taken.line a ++ came a;
-  line_more = λ a. has_come (came a);
-  client = taken.client;
+abbrev takings_of : (read : InputBytes) → (further : ℕ → List ℕ) → NodeView → (first is : BaysView) → Takings
+takings_of read further node first is = record {
+  line = λ a. read.line a ++ further a;
+  line_more = λ a. has_come (further a);
+  client = read.client;
   client_more = λ n. more_of n node.links (client_in_at first n) (client_in_at is n);
 }
 
-client_left_at : (plan : Plan) (first was is : BaysView) (taken : InputBytes) (node : NodeView) (i n : ℕ) (x : Connection) (link : Link) → node.turns ≤ node.past → StandsAt plan first taken node was
+client_left_at : (plan : Plan) (first was is : BaysView) (read : InputBytes) (node : NodeView) (i n : ℕ) (x : Connection) (link : Link) → node.turns ≤ node.past → StandsAt plan first read node was
     → is.client_in ≡ was.client_in → slice_get plan.connections i ≡ Some x → HasLink node i link → x.from ≡ from_end.Client n
-    → ClientInLeft x.retire (client_in_at first n) (client_in_at is n) (taken.client n) (more_of n node.links (client_in_at first n) (client_in_at is n))
-client_left_at plan first was is taken node i n x link over st same at has from =
-    let u = used_client plan first was taken node i n x link over st at has from in
-    let place = client_place plan first was is taken node x n link same u in
+    → ClientInLeft x.retire (client_in_at first n) (client_in_at is n) (read.client n) (more_of n node.links (client_in_at first n) (client_in_at is n))
+client_left_at plan first was is read node i n x link over st same at has from =
+    let u = used_client plan first was read node i n x link over st at has from in
+    let place = client_place plan first was is read node x n link same u in
     record {
       was = u.at_end.was;
-      left = text_left x (client_in_at first n) u.at_end.was (taken.client n) (turns_done x node.past (done_at node (port.ClientIn n))) link.pipe.taking (more_of n node.links (client_in_at first n) (client_in_at is n)) u.at_end.stands
+      left = text_left x (client_in_at first n) u.at_end.was (read.client n) (turns_done x node.past (done_at node (port.ClientIn n))) link.pipe.taking (more_of n node.links (client_in_at first n) (client_in_at is n)) u.at_end.stands
           (more_before n node.links (client_in_at first n) u.at_end.was (client_in_at is n) x.retire link.pipe.taking place (sole_passes (λ l. goes_on l.pipe.taking) plan node (port.ClientIn n) i x link refl st.plan_stands at has (touched_in n x from)));
       place = place;
     }
 
-client_may_at : (plan : Plan) (first was is : BaysView) (taken : InputBytes) (came : ℕ → List ℕ) (node : NodeView) (inputs : Inputs) (i n : ℕ) (x : Connection) (link : Link) → node.turns ≤ node.past
-    → StandsAt plan first taken node was → is.client_in ≡ was.client_in → MayBeInputs plan first is (takings_of taken came node first is) inputs → slice_get plan.connections i ≡ Some x → HasLink node i link
-    → x.from ≡ from_end.Client n → MayShow link.pipe.taking (taken.client n) (of_client (inputs.client n))
-client_may_at plan first was is taken came node inputs i n x link over st same may at has from =
-    let u = used_client plan first was taken node i n x link over st at has from in
-    let place = client_place plan first was is taken node x n link same u in
+client_may_at : (plan : Plan) (first was is : BaysView) (read : InputBytes) (further : ℕ → List ℕ) (node : NodeView) (inputs : Inputs) (i n : ℕ) (x : Connection) (link : Link) → node.turns ≤ node.past
+    → StandsAt plan first read node was → is.client_in ≡ was.client_in → MayBeInputs plan first is (takings_of read further node first is) inputs → slice_get plan.connections i ≡ Some x → HasLink node i link
+    → x.from ≡ from_end.Client n → MayShow link.pipe.taking (read.client n) (of_client (inputs.client n))
+client_may_at plan first was is read further node inputs i n x link over st same may at has from =
+    let u = used_client plan first was read node i n x link over st at has from in
+    let place = client_place plan first was is read node x n link same u in
     let m = may.client n (from_client_used plan i n x at from) in
-    text_may x (client_in_at first n) u.at_end.was (taken.client n) m.0 (turns_done x node.past (done_at node (port.ClientIn n))) link.pipe.taking (more_of n node.links (client_in_at first n) (client_in_at is n)) (inputs.client n)
+    text_may x (client_in_at first n) u.at_end.was (read.client n) m.0 (turns_done x node.past (done_at node (port.ClientIn n))) link.pipe.taking (more_of n node.links (client_in_at first n) (client_in_at is n)) (inputs.client n)
     u.at_end.stands
     (more_before n node.links (client_in_at first n) u.at_end.was (client_in_at is n) x.retire link.pipe.taking place (sole_passes (λ l. goes_on l.pipe.taking) plan node (port.ClientIn n) i x link refl st.plan_stands at has (touched_in n x from)))
     m.1
     (m.2 ∙ ap (λ d. input_given d m.0) (died_before (client_in_at first n) u.at_end.was (client_in_at is n) x.retire place))
 
-line_end_at : (plan : Plan) (first was is : BaysView) (taken : InputBytes) (node : NodeView) (inputs : Inputs) (a : ℕ) (came : ℕ → List ℕ) → UsedLine plan first was is taken node a (came a)
-    → MayBeInputs plan first is (takings_of taken came node first is) inputs → uses plan (port.LineIn a) ≡ true → EndOfLine (form_in plan a) (taken.line a) (came a) (inputs.line a) node.past
-line_end_at plan first was is taken node inputs a came u may used =
+line_end_at : (plan : Plan) (first was is : BaysView) (read : InputBytes) (node : NodeView) (inputs : Inputs) (a : ℕ) (further : ℕ → List ℕ) → UsedLine plan first was is read node a (further a)
+    → MayBeInputs plan first is (takings_of read further node first is) inputs → uses plan (port.LineIn a) ≡ true → EndOfLine (form_in plan a) (read.line a) (further a) (inputs.line a) node.past
+line_end_at plan first was is read node inputs a further u may used =
     let m = may.line a used in
-    end_of_line (form_in plan a) (line_in_at first a) (line_in_at was a) (line_in_at is a) (taken.line a) (came a) m.0 (inputs.line a) node.past u.line u.used.stands u.used.none u.used.asked m.1 m.2
+    end_of_line (form_in plan a) (line_in_at first a) (line_in_at was a) (line_in_at is a) (read.line a) (further a) m.0 (inputs.line a) node.past u.line u.used.stands u.used.none u.used.asked m.1 m.2
 
 -- what the inputs may turn out to be at the end they might be before it was settled
-may_before : (plan : Plan) (first was is : BaysView) (taken : InputBytes) (node : NodeView) (inputs : Inputs) → node.turns ≤ node.past → StandsAt plan first taken node was
-    → (asked : LinesAsked LINES node.pieces node.lines_in was is) → MayBeInputs plan first is (takings_of taken asked.came node first is) inputs → MayGive plan taken node inputs
-may_before plan first was is taken node inputs over st asked may = record {
+may_before : (plan : Plan) (first was is : BaysView) (read : InputBytes) (node : NodeView) (inputs : Inputs) → node.turns ≤ node.past → StandsAt plan first read node was
+    → (asked : LinesAsked LINES node.pieces node.lines_in was is) → MayBeInputs plan first is (takings_of read asked.further node first is) inputs → MayGive plan read node inputs
+may_before plan first was is read node inputs over st asked may = record {
   lines = λ a line has used.
-      let u = used_line_at plan first was is taken node a line over st asked used has in
+      let u = used_line_at plan first was is read node a line over st asked used has in
       let m = may.line a used in
-      may_at_end (form_in plan a) (line_in_at first a) (line_in_at was a) (line_in_at is a) (taken.line a) (asked.came a) m.0 (inputs.line a) node.past line u.stands u.asked m.1 m.2;
-  clients = λ i n x link at has from start. client_may_at plan first was is taken asked.came node inputs i n x link over st asked.client_in may at has from;
+      may_at_end (form_in plan a) (line_in_at first a) (line_in_at was a) (line_in_at is a) (read.line a) (asked.further a) m.0 (inputs.line a) node.past line u.stands u.asked m.1 m.2;
+  clients = λ i n x link at has from start. client_may_at plan first was is read asked.further node inputs i n x link over st asked.client_in may at has from;
 }
 
 -- ---- how it ends
@@ -215,18 +215,18 @@ none_dead plan node is p none d =
     absurd (cc)
 
 -- what a connection says of its client is so
-says_at : (plan : Plan) (first was is : BaysView) (taken : InputBytes) (came : ℕ → List ℕ) (node : NodeView) (inputs : Inputs) (i n : ℕ) (x : Connection) (link : Link) (says : Bool) → node.turns ≤ node.past
-    → StandsAt plan first taken node was → is.client_in ≡ was.client_in → MayBeInputs plan first is (takings_of taken came node first is) inputs → slice_get plan.connections i ≡ Some x → HasLink node i link
+says_at : (plan : Plan) (first was is : BaysView) (read : InputBytes) (further : ℕ → List ℕ) (node : NodeView) (inputs : Inputs) (i n : ℕ) (x : Connection) (link : Link) (says : Bool) → node.turns ≤ node.past
+    → StandsAt plan first read node was → is.client_in ≡ was.client_in → MayBeInputs plan first is (takings_of read further node first is) inputs → slice_get plan.connections i ≡ Some x → HasLink node i link
     → x.from ≡ from_end.Client n → SaysSpent link says → says ≡ is_spent (inputs.client n) x.fcs (emitted_in_all x)
-says_at plan first was is taken came node inputs i n x link says over st same may at has from h =
-    let u = used_client plan first was taken node i n x link over st at has from in
-    h x (client_in_at first n) u.at_end.was (taken.client n) (turns_done x node.past (done_at node (port.ClientIn n))) (inputs.client n) u.at_end.stands
-    (client_may_at plan first was is taken came node inputs i n x link over st same may at has from)
+says_at plan first was is read further node inputs i n x link says over st same may at has from h =
+    let u = used_client plan first was read node i n x link over st at has from in
+    h x (client_in_at first n) u.at_end.was (read.client n) (turns_done x node.past (done_at node (port.ClientIn n))) (inputs.client n) u.at_end.stands
+    (client_may_at plan first was is read further node inputs i n x link over st same may at has from)
     ∙ ap (λ k. is_spent (inputs.client n) x.fcs (emitted_before x.pace k)) u.done
 
-some_open : (plan : Plan) (first was is : BaysView) (taken : InputBytes) (came : ℕ → List ℕ) (node : NodeView) (inputs : Inputs) → node.turns ≤ node.past
-    → StandsAt plan first taken node was → is.client_in ≡ was.client_in → MayBeInputs plan first is (takings_of taken came node first is) inputs → OpenLink node.links → HasOpen plan inputs
-some_open plan first was is taken came node inputs over st same may o =
+some_open : (plan : Plan) (first was is : BaysView) (read : InputBytes) (further : ℕ → List ℕ) (node : NodeView) (inputs : Inputs) → node.turns ≤ node.past
+    → StandsAt plan first read node was → is.client_in ≡ was.client_in → MayBeInputs plan first is (takings_of read further node first is) inputs → OpenLink node.links → HasOpen plan inputs
+some_open plan first was is read further node inputs over st same may o =
     let e = entry_at plan node o.i o.link st.plan_stands o.known in
     let from : e.0.from ≡ from_end.Client o.n = from_client o.n e.0.from (sym (joins_as (port.ClientIn o.n) e.0 o.link e.1.1) ∙ touched_in o.n o.link.entry o.from) in
     record {
@@ -234,17 +234,17 @@ some_open plan first was is taken came node inputs over st same may o =
       n = o.n;
       is_of = contains plan.connections o.i e.0 e.1.0;
       from = from;
-      unspent = sym (says_at plan first was is taken came node inputs o.i o.n e.0 o.link false over st same may e.1.0 o.known from o.unspent);
+      unspent = sym (says_at plan first was is read further node inputs o.i o.n e.0 o.link false over st same may e.1.0 o.known from o.unspent);
     }
 
-none_open : (plan : Plan) (first was is : BaysView) (taken : InputBytes) (came : ℕ → List ℕ) (node : NodeView) (inputs : Inputs) → node.turns ≤ node.past
-    → StandsAt plan first taken node was → is.client_in ≡ was.client_in → MayBeInputs plan first is (takings_of taken came node first is) inputs
+none_open : (plan : Plan) (first was is : BaysView) (read : InputBytes) (further : ℕ → List ℕ) (node : NodeView) (inputs : Inputs) → node.turns ≤ node.past
+    → StandsAt plan first read node was → is.client_in ≡ was.client_in → MayBeInputs plan first is (takings_of read further node first is) inputs
     → ((i n : ℕ) (link : Link) → slice_get node.links i ≡ Some link → link.entry.from ≡ from_end.Client n → SaysSpent link true) → HasOpen plan inputs → ⊥
-none_open plan first was is taken came node inputs over st same may none o =
+none_open plan first was is read further node inputs over st same may none o =
     let at = entry_of plan o.x o.is_of in
     let link = link_at plan node o.is_of.0 o.x st.plan_stands at in
     let from : link.link.entry.from ≡ from_end.Client o.n = from_as o.x link.link link.is ∙ o.from in
-    let says = says_at plan first was is taken came node inputs o.is_of.0 o.n o.x link.link true over st same may at link.has o.from (none o.is_of.0 o.n link.link link.has from) in
+    let says = says_at plan first was is read further node inputs o.is_of.0 o.n o.x link.link true over st same may at link.has o.from (none o.is_of.0 o.n link.link link.has from) in
     let un = o.unspent in
     absurd (cc)
 
@@ -262,26 +262,26 @@ is_outcome plan inputs is true more d n m o = record { cut = (λ _. d refl, λ _
 is_outcome plan inputs is false true d n m o = record { cut = (λ e. absurd (cc), λ h. absurd (n refl h)); unfinished = (λ _. (n refl, m refl), λ _. refl) }
 is_outcome plan inputs is false false d n m o = record { cut = (λ e. absurd (cc), λ h. absurd (n refl h)); unfinished = (λ e. absurd (cc), λ u. absurd (o refl u.1)) }
 
-pub settled_is : (plan : Plan) (first was is : BaysView) (taken : InputBytes) (node : NodeView) (dead more unspent : Bool) → IsNode node → node.turns ≤ node.past → StandsAt plan first taken node was
-    → LinesAnswer LINES node.pieces node.lines_in was is more → CutAnswer node.pieces is dead → OpensAnswer node.links unspent → Settled plan first taken node is (outcome_by dead (more || unspent))
-settled_is plan first was is taken node dead more unspent n over st lines cut opens = record {
-  takings = takings_of taken lines.asked.came node first is;
-  line_in = λ a used. let u = line a used in line_left (form_in plan a) (line_in_at first a) (line_in_at was a) (line_in_at is a) (taken.line a) (lines.asked.came a) node.past u.line u.used.stands u.used.asked;
+pub settled_is : (plan : Plan) (first was is : BaysView) (read : InputBytes) (node : NodeView) (dead more unspent : Bool) → IsNode node → node.turns ≤ node.past → StandsAt plan first read node was
+    → LinesAnswer LINES node.pieces node.lines_in was is more → CutAnswer node.pieces is dead → OpensAnswer node.links unspent → Settled plan first read node is (outcome_by dead (more || unspent))
+settled_is plan first was is read node dead more unspent n over st lines cut opens = record {
+  takings = takings_of read lines.asked.further node first is;
+  line_in = λ a used. let u = line a used in line_left (form_in plan a) (line_in_at first a) (line_in_at was a) (line_in_at is a) (read.line a) (lines.asked.further a) node.past u.line u.used.stands u.used.asked;
   client_in = λ x m has from.
       let at = entry_of plan x has in
       let link = link_at plan node has.0 x st.plan_stands at in
-      client_left_at plan first was is taken node has.0 m x link.link over st lines.asked.client_in at link.has from;
+      client_left_at plan first was is read node has.0 m x link.link over st lines.asked.client_in at link.has from;
   idle = idle;
   of_inputs = λ inputs may. record {
-    may = may_before plan first was is taken node inputs over st lines.asked may;
-    took = λ a used. (line_end_at plan first was is taken node inputs a lines.asked.came (line a used) may used).took ∙ ap (λ t. min (length (inputs.line a)) (suc (line_taken (form_in plan a) (inputs.line a) t 0))) turns;
+    may = may_before plan first was is read node inputs over st lines.asked may;
+    took = λ a used. (line_end_at plan first was is read node inputs a lines.asked.further (line a used) may used).took ∙ ap (λ t. min (length (inputs.line a)) (suc (line_taken (form_in plan a) (inputs.line a) t 0))) turns;
     text = λ x m has from.
         let at = entry_of plan x has in
         let link = link_at plan node has.0 x st.plan_stands at in
-        let u = used_client plan first was taken node has.0 m x link.link over st at link.has from in
-        subst (λ k. (short : Bool) × ReadAsNeeded short (packets_asked (inputs.client m).packets x.fcs (emitted_before x.pace k)) (taken.client m)) u.done
-        (text_read x (client_in_at first m) u.at_end.was (taken.client m) (turns_done x node.past (done_at node (port.ClientIn m))) link.link.pipe.taking (inputs.client m) u.at_end.stands
-        (client_may_at plan first was is taken lines.asked.came node inputs has.0 m x link.link over st lines.asked.client_in may at link.has from));
+        let u = used_client plan first was read node has.0 m x link.link over st at link.has from in
+        subst (λ k. (short : Bool) × ReadAsNeeded short (packets_asked (inputs.client m).packets x.fcs (emitted_before x.pace k)) (read.client m)) u.done
+        (text_read x (client_in_at first m) u.at_end.was (read.client m) (turns_done x node.past (done_at node (port.ClientIn m))) link.link.pipe.taking (inputs.client m) u.at_end.stands
+        (client_may_at plan first was is read lines.asked.further node inputs has.0 m x link.link over st lines.asked.client_in may at link.has from));
     outcome_is = is_outcome plan inputs is dead (more || unspent) (λ e. let d = cut.some e in some_dead plan node is d.0 st.plan_stands d.1) (λ e. none_dead plan node is st.plan_stands (cut.none e))
         (λ e. some_more inputs may (or_cases more unspent e)) (λ e h. let p = or_parts more unspent e in none_more inputs may p.0 p.1 h);
   };
@@ -290,8 +290,8 @@ settled_is plan first was is taken node dead more unspent n over st lines cut op
     turns : node.past ≡ plan.turns
     turns = turns_past plan node st.plan_stands over
 
-    line : (a : ℕ) → uses plan (port.LineIn a) ≡ true → UsedLine plan first was is taken node a (lines.asked.came a)
-    line a used = used_line plan first was is taken node a n over st lines.asked used
+    line : (a : ℕ) → uses plan (port.LineIn a) ≡ true → UsedLine plan first was is read node a (lines.asked.further a)
+    line a used = used_line plan first was is read node a n over st lines.asked used
 
     idle : (name : PortName) → uses plan name ≡ false → SamePlace name first is
     idle (port.LineIn a) unused = line_idle plan was is node a n st.plan_stands lines.asked unused ∙ ap input_of (st.idle (port.LineIn a) unused)
@@ -299,17 +299,17 @@ settled_is plan first was is taken node dead more unspent n over st lines cut op
     idle (port.ClientIn m) unused = ap (λ l. get_or l m no_input) lines.asked.client_in ∙ ap input_of (st.idle (port.ClientIn m) unused)
     idle (port.ClientOut m) unused = ap (λ l. get_or l m no_output) lines.asked.client_out ∙ ap output_of (st.idle (port.ClientOut m) unused)
 
-    end_of : (inputs : Inputs) → MayBeInputs plan first is (takings_of taken lines.asked.came node first is) inputs → (a : ℕ) → uses plan (port.LineIn a) ≡ true
-        → EndOfLine (form_in plan a) (taken.line a) (lines.asked.came a) (inputs.line a) plan.turns
-    end_of inputs may a used = subst (EndOfLine (form_in plan a) (taken.line a) (lines.asked.came a) (inputs.line a)) turns (line_end_at plan first was is taken node inputs a lines.asked.came (line a used) may used)
+    end_of : (inputs : Inputs) → MayBeInputs plan first is (takings_of read lines.asked.further node first is) inputs → (a : ℕ) → uses plan (port.LineIn a) ≡ true
+        → EndOfLine (form_in plan a) (read.line a) (lines.asked.further a) (inputs.line a) plan.turns
+    end_of inputs may a used = subst (EndOfLine (form_in plan a) (read.line a) (lines.asked.further a) (inputs.line a)) turns (line_end_at plan first was is read node inputs a lines.asked.further (line a used) may used)
 
-    some_more : (inputs : Inputs) → MayBeInputs plan first is (takings_of taken lines.asked.came node first is) inputs → (more ≡ true) ⊎ (unspent ≡ true) → HasMore plan inputs ⊎ HasOpen plan inputs
+    some_more : (inputs : Inputs) → MayBeInputs plan first is (takings_of read lines.asked.further node first is) inputs → (more ≡ true) ⊎ (unspent ≡ true) → HasMore plan inputs ⊎ HasOpen plan inputs
     some_more inputs may (inl m) =
         let s = lines.some m in
         let used = came_used plan was is node s.0 n st.plan_stands lines.asked s.1 s.2 in
         inl (record { line = s.0; used = used; more = (end_of inputs may s.0 used).more s.2 })
-    some_more inputs may (inr o) = inr (some_open plan first was is taken lines.asked.came node inputs over st lines.asked.client_in may (opens.some o))
+    some_more inputs may (inr o) = inr (some_open plan first was is read lines.asked.further node inputs over st lines.asked.client_in may (opens.some o))
 
-    none_more : (inputs : Inputs) → MayBeInputs plan first is (takings_of taken lines.asked.came node first is) inputs → more ≡ false → unspent ≡ false → HasMore plan inputs ⊎ HasOpen plan inputs → ⊥
+    none_more : (inputs : Inputs) → MayBeInputs plan first is (takings_of read lines.asked.further node first is) inputs → more ≡ false → unspent ≡ false → HasMore plan inputs ⊎ HasOpen plan inputs → ⊥
     none_more inputs may m o (inl h) = let le = (end_of inputs may h.line h.used).none (lines.none m h.line) in let lt = h.more in omega (arith, le, lt)
-    none_more inputs may m o (inr h) = none_open plan first was is taken lines.asked.came node inputs over st lines.asked.client_in may (opens.none o) h
+    none_more inputs may m o (inr h) = none_open plan first was is read lines.asked.further node inputs over st lines.asked.client_in may (opens.none o) h

@@ -90,31 +90,31 @@ not_goes true e = refl
 not_goes false e = absurd (cc)
 
 -- what was taken of it, and whether more may stand behind that
-pub text_left : (x : Connection) (first was : InView) (taken : List ℕ) (k : ℕ) (part : TakingPart) (more : Bool) → ClientInStands x first was taken k part
-    → more ≡ more_in first.state was.state (goes_on part) → InputLeft first was taken more
-text_left x first was taken k (taking.Client client) more h e =
+pub text_left : (x : Connection) (first was : InView) (read : List ℕ) (k : ℕ) (part : TakingPart) (more : Bool) → ClientInStands x first was read k part
+    → more ≡ more_in first.state was.state (goes_on part) → InputLeft first was read more
+text_left x first was read k (taking.Client client) more h e =
     let lines = h.stands.text.stands in record {
       gave = lines.gave;
       live = λ m. live_where first.state was.state first.faults was.faults (goes_on (taking.Client client)) lines.gave.state (sym e ∙ m);
       over = λ m live. lines.over (not_goes (lines_view client.lines).ended (over_where first.state was.state first.faults was.faults (goes_on (taking.Client client)) lines.gave.state (sym e ∙ m) live)) live;
-      died = died_unended first was taken h.stands.packets (lines_view client.lines) lines;
+      died = died_unended first was read h.stands.packets (lines_view client.lines) lines;
     }
-text_left x first was taken k (taking.Line sink) more h e = absurd h
-text_left x first was taken k (taking.Signal stream) more h e = absurd h
+text_left x first was read k (taking.Line sink) more h e = absurd h
+text_left x first was read k (taking.Signal stream) more h e = absurd h
 
 -- ---- the text
 
-among : (ended : Bool) (a : Line) (taken given rest : List ℕ) → given ≡ taken ++ rest → (ended ≡ true → rest ≡ []) → (a ≡ End → ended ≡ true) → a ≢ Lost → may_be ended a taken given
-among true a taken given rest parts none end alive = parts ∙ ap (λ bytes. taken ++ bytes) (none refl) ∙ append-nil taken
-among false Packet taken given rest parts none end alive =
-    let f = full_lines-front taken in
-    record { rest = f.rest ++ rest; parts = parts ∙ ap (λ bytes. bytes ++ rest) f.parts ∙ append_assoc (full_lines taken) f.rest rest }
-among false (Bad n) taken given rest parts none end alive = record { rest = rest; parts = parts }
-among false End taken given rest parts none end alive = absurd (let e = end refl in cc)
-among false Lost taken given rest parts none end alive = absurd (alive refl)
+among : (ended : Bool) (a : Line) (read available rest : List ℕ) → available ≡ read ++ rest → (ended ≡ true → rest ≡ []) → (a ≡ End → ended ≡ true) → a ≢ Lost → may_be ended a read available
+among true a read available rest parts none end alive = parts ∙ ap (λ bytes. read ++ bytes) (none refl) ∙ append-nil read
+among false Packet read available rest parts none end alive =
+    let f = full_lines-front read in
+    record { rest = f.rest ++ rest; parts = parts ∙ ap (λ bytes. bytes ++ rest) f.parts ∙ append_assoc (full_lines read) f.rest rest }
+among false (Bad n) read available rest parts none end alive = record { rest = rest; parts = parts }
+among false End read available rest parts none end alive = absurd (let e = end refl in cc)
+among false Lost read available rest parts none end alive = absurd (alive refl)
 
-dead_text : (ended : Bool) (a : Line) (taken given : List ℕ) → ended ≡ false → a ≡ Lost → given ≡ taken → may_be ended a taken (text_of_dead given)
-dead_text ended a taken given e f g = rw (e, f, g) refl
+dead_text : (ended : Bool) (a : Line) (read available : List ℕ) → ended ≡ false → a ≡ Lost → available ≡ read → may_be ended a read (text_of_dead available)
+dead_text ended a read available e f g = rw (e, f, g) refl
 
 same_alive : (s : State) → has_died s s ≡ false
 same_alive Live = refl
@@ -146,53 +146,53 @@ none_dead Empty was goes e = refl
 none_dead Dead was goes e = refl
 
 -- whether it died, as its lines tell it
-dies : (first was : InView) (taken : List ℕ) (packets : List (List ℕ)) (view : LinesView) → LinesStand first was taken packets view → MayDie view.answer (has_died first.state was.state)
-dies first was taken packets view h = record {
+dies : (first was : InView) (read : List ℕ) (packets : List (List ℕ)) (view : LinesView) → LinesStand first was read packets view → MayDie view.answer (has_died first.state was.state)
+dies first was read packets view h = record {
   ended = λ e. ap (has_died first.state) (h.alive (λ l. end_not_lost (sym e ∙ l))) ∙ same_alive first.state;
   lost = λ e. (let l = h.lost e in rw (l.1, l.2) refl);
 }
 
-text_among : (first was : InView) (taken raw rest : List ℕ) (packets : List (List ℕ)) (view : LinesView) → LinesStand first was taken packets view → raw ≡ taken ++ rest
-    → (more_in first.state was.state (not view.ended) ≡ false → rest ≡ []) → may_be view.ended view.answer taken (if has_died first.state was.state then text_of_dead raw else raw)
-text_among first was taken raw rest packets view h parts over = by_answer (is_lost view.answer)
+text_among : (first was : InView) (read raw rest : List ℕ) (packets : List (List ℕ)) (view : LinesView) → LinesStand first was read packets view → raw ≡ read ++ rest
+    → (more_in first.state was.state (not view.ended) ≡ false → rest ≡ []) → may_be view.ended view.answer read (if has_died first.state was.state then text_of_dead raw else raw)
+text_among first was read raw rest packets view h parts over = by_answer (is_lost view.answer)
   where
-    by_answer : (view.answer ≡ Lost) ⊎ (view.answer ≢ Lost) → may_be view.ended view.answer taken (if has_died first.state was.state then text_of_dead raw else raw)
+    by_answer : (view.answer ≡ Lost) ⊎ (view.answer ≢ Lost) → may_be view.ended view.answer read (if has_died first.state was.state then text_of_dead raw else raw)
     by_answer (inl lost) =
         let l = h.lost lost in
-        let died : has_died first.state was.state ≡ true = (dies first was taken packets view h).lost lost in
-        let same : raw ≡ taken = parts ∙ ap (λ bytes. taken ++ bytes) (over (none_dead first.state was.state (not view.ended) l.1)) ∙ append-nil taken in
-        subst (λ d. may_be view.ended view.answer taken (if d then text_of_dead raw else raw)) (sym died) (dead_text view.ended view.answer taken raw l.0 lost same)
+        let died : has_died first.state was.state ≡ true = (dies first was read packets view h).lost lost in
+        let same : raw ≡ read = parts ∙ ap (λ bytes. read ++ bytes) (over (none_dead first.state was.state (not view.ended) l.1)) ∙ append-nil read in
+        subst (λ d. may_be view.ended view.answer read (if d then text_of_dead raw else raw)) (sym died) (dead_text view.ended view.answer read raw l.0 lost same)
     by_answer (inr alive) =
         let lives : has_died first.state was.state ≡ false = ap (has_died first.state) (h.alive alive) ∙ same_alive first.state in
-        subst (λ d. may_be view.ended view.answer taken (if d then text_of_dead raw else raw)) (sym lives)
-        (among view.ended view.answer taken raw rest parts (λ e. over (none_ended first.state was.state (not view.ended) (ap not e))) h.ended alive)
+        subst (λ d. may_be view.ended view.answer read (if d then text_of_dead raw else raw)) (sym lives)
+        (among view.ended view.answer read raw rest parts (λ e. over (none_ended first.state was.state (not view.ended) (ap not e))) h.ended alive)
 
 -- what a client may turn out to be at the end its lines may tell
-pub text_may : (x : Connection) (first was : InView) (taken raw : List ℕ) (k : ℕ) (part : TakingPart) (more : Bool) (input : ClientInput) → ClientInStands x first was taken k part
-    → more ≡ more_in first.state was.state (goes_on part) → MayHave more taken raw → input ≡ input_given (has_died first.state was.state) raw → MayShow part taken (of_client input)
-text_may x first was taken raw k (taking.Client client) more input h e may is =
+pub text_may : (x : Connection) (first was : InView) (read raw : List ℕ) (k : ℕ) (part : TakingPart) (more : Bool) (input : ClientInput) → ClientInStands x first was read k part
+    → more ≡ more_in first.state was.state (goes_on part) → MayHave more read raw → input ≡ input_given (has_died first.state was.state) raw → MayShow part read (of_client input)
+text_may x first was read raw k (taking.Client client) more input h e may is =
     let lines = h.stands.text.stands in record {
       died = has_died first.state was.state;
       text = if has_died first.state was.state then text_of_dead raw else raw;
-      may = text_among first was taken raw may.rest h.stands.packets (lines_view client.lines) lines may.parts (λ m. may.over (e ∙ m));
-      die = dies first was taken h.stands.packets (lines_view client.lines) lines;
+      may = text_among first was read raw may.rest h.stands.packets (lines_view client.lines) lines may.parts (λ m. may.over (e ∙ m));
+      die = dies first was read h.stands.packets (lines_view client.lines) lines;
       is = is;
     }
-text_may x first was taken raw k (taking.Line sink) more input h e may is = absurd h
-text_may x first was taken raw k (taking.Signal stream) more input h e may is = absurd h
+text_may x first was read raw k (taking.Line sink) more input h e may is = absurd h
+text_may x first was read raw k (taking.Signal stream) more input h e may is = absurd h
 
 -- what was read of it was needed
-pub text_read : (x : Connection) (first was : InView) (taken : List ℕ) (k : ℕ) (part : TakingPart) (input : ClientInput) → ClientInStands x first was taken k part → MayShow part taken (of_client input)
-    → (short : Bool) × ReadAsNeeded short (packets_asked input.packets x.fcs (emitted_before x.pace k)) taken
-text_read x first was taken k (taking.Client client) input h m =
+pub text_read : (x : Connection) (first was : InView) (read : List ℕ) (k : ℕ) (part : TakingPart) (input : ClientInput) → ClientInStands x first was read k part → MayShow part read (of_client input)
+    → (short : Bool) × ReadAsNeeded short (packets_asked input.packets x.fcs (emitted_before x.pace k)) read
+text_read x first was read k (taking.Client client) input h m =
     let view = lines_view client.lines in
     let all = (packets_of m.text).packets in
     let short = came_short view.ended view.answer in
     let asked : packets_asked all client.framer.stream.fcs (length h.emitted) ≡ packets_asked input.packets x.fcs (emitted_before x.pace k) =
     ap (λ f. packets_asked all f (length h.emitted)) h.fcs ∙ ap (packets_asked all x.fcs) h.count ∙ ap (λ (i : ClientInput). packets_asked i.packets x.fcs (emitted_before x.pace k)) (sym m.is) in
-    (short, subst (λ n. ReadAsNeeded short n taken) asked (read_as_asked first was taken h.emitted view client.framer m.text h.stands m.may))
-text_read x first was taken k (taking.Line sink) input h m = absurd h
-text_read x first was taken k (taking.Signal stream) input h m = absurd h
+    (short, subst (λ n. ReadAsNeeded short n read) asked (read_as_asked first was read h.emitted view client.framer m.text h.stands m.may))
+text_read x first was read k (taking.Line sink) input h m = absurd h
+text_read x first was read k (taking.Signal stream) input h m = absurd h
 
 -- ---- the end of a connection
 

@@ -21,9 +21,9 @@ told_more Told xs i x d within before here m less = elim (eqb_tells m i) [
 ]
 
 lines_told : (node : NodeView) (a : ℕ) (counts : LineCounts) → length node.lines_in ≡ 4 → (a < 4 → IsLineCounts node a counts) → IsLineCounts node a counts
-lines_told node a counts four h plan first taken now inputs line stands may used has =
+lines_told node a counts four h plan first read now inputs line stands may used has =
     let within : a < 4 = (let less = slice_get_within node.lines_in a line has in omega (arith, four)) in
-    h within plan first taken now inputs line stands may used has
+    h within plan first read now inputs line stands may used has
 
 frames_told : (node : NodeView) (b frames : ℕ) → length node.lines_out ≡ 4 → (b < 4 → IsFrameCount node b frames) → IsFrameCount node b frames
 frames_told node b frames four h line has = h (let less = slice_get_within node.lines_out b line has in omega (arith, four)) line has
@@ -39,15 +39,15 @@ pub all_told : (plan : Plan) (node : NodeView) (run : RunNumbers) → length nod
 all_told plan node run lines outs line_in line_out client_in client_out from = record {
   line_in = λ a used. lines_told node a (get_or run.lines_in a no_counts) lines (line_in a);
   line_out = λ b used. frames_told node b (get_or run.lines_out b 0) outs (line_out b);
-  client_in = λ n used. λ plan first taken now inputs x stands may is_of comes.
+  client_in = λ n used. λ plan first read now inputs x stands may is_of comes.
       let p = stands.plan_stands in
-      client_in n (((sound_plan plan p.accepted).entries is_of.0 x (entry_of plan x is_of)).from_client n comes) plan first taken now inputs x stands may is_of comes;
-  client_out = λ n used. λ plan first taken now i x link stands at has goes.
+      client_in n (((sound_plan plan p.accepted).entries is_of.0 x (entry_of plan x is_of)).from_client n comes) plan first read now inputs x stands may is_of comes;
+  client_out = λ n used. λ plan first read now i x link stands at has goes.
       let p = stands.plan_stands in
-      client_out n (((sound_plan plan p.accepted).entries i x at).to_client n goes) plan first taken now i x link stands at has goes;
-  from = λ i x at. λ plan first taken now inputs y stands may known.
+      client_out n (((sound_plan plan p.accepted).entries i x at).to_client n goes) plan first read now i x link stands at has goes;
+  from = λ i x at. λ plan first read now inputs y stands may known.
       let p = stands.plan_stands in
       let within : i < length plan.connections = slice_get_within plan.connections i y known in
       let few = (sound_plan plan p.accepted).few in
-      from i (rw p.count within) (omega (arith, few)) plan first taken now inputs y stands may known;
+      from i (rw p.count within) (omega (arith, few)) plan first read now inputs y stands may known;
 }

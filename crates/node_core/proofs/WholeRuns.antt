@@ -15,10 +15,10 @@ use Rattle.node_moments.specs.Stands.{InputBytes, StandsAt}
 use Rattle.node_core.proofs.NumbersLeft.{RestsLeft, outputs_told}
 use Rattle.node_core.proofs.RunsLeft.{rest_at_end}
 
-pub run_told : (plan : Plan) (first was last : BaysView) (taken : InputBytes) (node : NodeView) (outcome : Outcome) (numbers : Numbers) → length node.lines_in ≡ LINES → length node.lines_out ≡ LINES
-    → StandsAt plan first taken node was → node.turns ≤ node.past → (settled : Settled plan first taken node last outcome) → LinesAsked LINES node.pieces node.lines_in was last
+pub run_told : (plan : Plan) (first was last : BaysView) (read : InputBytes) (node : NodeView) (outcome : Outcome) (numbers : Numbers) → length node.lines_in ≡ LINES → length node.lines_out ≡ LINES
+    → StandsAt plan first read node was → node.turns ≤ node.past → (settled : Settled plan first read node last outcome) → LinesAsked LINES node.pieces node.lines_in was last
     → ToldBy plan node numbers → numbers.outcome ≡ outcome → RunLeft plan first last settled.takings numbers
-run_told plan first was last taken node outcome numbers lines_in lines_out h over settled asked told same = record {
+run_told plan first was last read node outcome numbers lines_in lines_out h over settled asked told same = record {
   line_in = settled.line_in;
   client_in = settled.client_in;
   idle = settled.idle;
@@ -28,6 +28,6 @@ run_told plan first was last taken node outcome numbers lines_in lines_out h ove
     of_inputs : (inputs : Inputs) → MayBeInputs plan first last settled.takings inputs → RunOf plan first last settled.takings numbers inputs
     of_inputs inputs may =
         let s = settled.of_inputs inputs may in
-        let rests : RestsLeft plan node last inputs = λ a line has used. rest_at_end plan first was last taken node inputs a line over h asked s.may used has in
-        let o = outputs_told plan first taken node was last inputs numbers lines_in lines_out h over s.may told rests (subst (IsOutcome plan inputs last) (sym same) s.outcome_is) asked.line_out asked.client_out in
-        record { took = s.took; text = s.text; went = o.went; outputs = o.outputs; numbers_are = o.numbers_are }
+        let rests : RestsLeft plan node last inputs = λ a line has used. rest_at_end plan first was last read node inputs a line over h asked s.may used has in
+        let o = outputs_told plan first read node was last inputs numbers lines_in lines_out h over s.may told rests (subst (IsOutcome plan inputs last) (sym same) s.outcome_is) asked.line_out asked.client_out in
+        record { took = s.took; text = s.text; written = o.written; outputs = o.outputs; numbers_are = o.numbers_are }

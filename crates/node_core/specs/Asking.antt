@@ -15,10 +15,10 @@ asks_line pieces a line = nat_lt 0 (wanted_of pieces (port.LineIn a)) && not (is
 
 -- the first n lines were asked, each once, where they are to be asked; no other place was asked
 pub record LinesAsked (n : ℕ) (pieces : PiecesView) (lines : List LineView) (was is : BaysView) : Type 0 where
-  pub came : (a : ℕ) → List ℕ
+  pub further : (a : ℕ) → List ℕ
   pub each : (a : ℕ) (line : LineView) → a < n → slice_get lines a ≡ Some line
-      → ByteAsked (asks_line pieces a line) (line_in_at was a) (line_in_at is a) (came a)
-  pub rest : (a : ℕ) → n ≤ a → (line_in_at is a ≡ line_in_at was a) × (came a ≡ [])
+      → ByteAsked (asks_line pieces a line) (line_in_at was a) (line_in_at is a) (further a)
+  pub rest : (a : ℕ) → n ≤ a → (line_in_at is a ≡ line_in_at was a) × (further a ≡ [])
   pub line_out : is.line_out ≡ was.line_out
   pub client_in : is.client_in ≡ was.client_in
   pub client_out : is.client_out ≡ was.client_out

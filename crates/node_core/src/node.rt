@@ -128,9 +128,9 @@ impl Node {
         requires ready { is_ready self.old port ≡ true }
 
         // from any moment of any accepted plan this leads to the moment with one piece more of this port
-        ensures stands { (plan : Plan) (first : BaysView) (taken : InputBytes)
-            → StandsAt plan first taken self.old (bays_view P.Source K.Sink bays.old)
-            → Later plan first taken self.old self.new (bays_view P.Source K.Sink bays.new) }
+        ensures stands { (plan : Plan) (first : BaysView) (read : InputBytes)
+            → StandsAt plan first read self.old (bays_view P.Source K.Sink bays.old)
+            → Later plan first read self.old self.new (bays_view P.Source K.Sink bays.new) }
         ensures piece { IsCounted port self.old.pieces self.new.pieces }
         ensures turns { self.new.turns ≡ self.old.turns }
         ensures past { self.new.past ≡ self.old.past }
@@ -199,9 +199,9 @@ impl Node {
         requires none { (port : PortName) → is_ready self.old port ≡ false }
 
         // from any moment of any accepted plan this leads to the next turn, of which no piece is done
-        ensures stands { (plan : Plan) (first : BaysView) (taken : InputBytes)
-            → StandsAt plan first taken self.old (bays_view P.Source K.Sink bays.old)
-            → Later plan first taken self.old self.new (bays_view P.Source K.Sink bays.new) }
+        ensures stands { (plan : Plan) (first : BaysView) (read : InputBytes)
+            → StandsAt plan first read self.old (bays_view P.Source K.Sink bays.old)
+            → Later plan first read self.old self.new (bays_view P.Source K.Sink bays.new) }
         ensures ends { FenceMove self.old self.new }
         ensures retired { RetiredBy self.old.past self.old.links (bays_view P.Source K.Sink bays.old)
             (bays_view P.Source K.Sink bays.new) }

@@ -19,9 +19,9 @@ pub fn carry<P: Source, K: Sink, C: Chooser>(
     bays: &mut Rack<P, K>,
     chooser: &mut C,
 )
-    ensures stands { (plan : Plan) (first : BaysView) (taken : InputBytes)
-        → StandsAt plan first taken node.old (bays_view P.Source K.Sink bays.old)
-        → Later plan first taken node.old node.new (bays_view P.Source K.Sink bays.new) }
+    ensures stands { (plan : Plan) (first : BaysView) (read : InputBytes)
+        → StandsAt plan first read node.old (bays_view P.Source K.Sink bays.old)
+        → Later plan first read node.old node.new (bays_view P.Source K.Sink bays.new) }
     ensures finished { node.new.turns ≤ node.new.past }
     ensures turns { node.new.turns ≡ node.old.turns }
     ensures asked { C.asked chooser.new ≡ raised (C.asked chooser.old) (left_of node.old) }

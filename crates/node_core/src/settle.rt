@@ -31,9 +31,9 @@ impl Node {
         requires finished { self.now.turns ≤ self.now.past }
 
         // whatever plan it is of, and whatever was taken of the inputs, this settles it
-        ensures settled { (plan : Plan) (first : BaysView) (taken : InputBytes)
-            → StandsAt plan first taken self.now (bays_view P.Source K.Sink bays.old)
-            → Settled plan first taken self.now (bays_view P.Source K.Sink bays.new) result }
+        ensures settled { (plan : Plan) (first : BaysView) (read : InputBytes)
+            → StandsAt plan first read self.now (bays_view P.Source K.Sink bays.old)
+            → Settled plan first read self.now (bays_view P.Source K.Sink bays.new) result }
         ensures asked { LinesAsked LINE_PORTS self.now.pieces self.now.lines_in (bays_view P.Source K.Sink bays.old)
             (bays_view P.Source K.Sink bays.new) }
     {
@@ -53,8 +53,8 @@ fn ask_lines<P: Source, K: Sink>(lines: &[LineIn], pieces: &Pieces, bays: &mut R
     let mut more = false;
     for a in 0..LINES as u8 {
         let asks = asks_line(a, &lines[a as usize], pieces);
-        let came = ask_if(asks, bays.line_in_mut(a));
-        more = either(more, came);
+        let further = ask_if(asks, bays.line_in_mut(a));
+        more = either(more, further);
     }
     more
 }

@@ -51,12 +51,12 @@ one_takes past n i links link then was is found known h =
     record {
       took = each_one _ links i link then known (λ l. (same_entry l, refl, λ off. refl)) (h.same, h.giving, λ off. both (takes_part past (port.ClientIn n) link) passes off);
       none = λ all. both (takes_part past (port.ClientIn n) link) passes (all i link known);
-      one = λ j other next at_other at_next on alone x first taken.
+      one = λ j other next at_other at_next on alone x first read.
           let same : i ≡ j = alone i link known passes in
           let here : link ≡ other = same_Some link other (sym known ∙ ap (slice_get links) same ∙ at_other) in
           let there : then ≡ next = same_Some then next (sym (set_here links i then (slice_get_within links i link known)) ∙ ap (slice_get (set links i then)) same ∙ at_next) in
           let moved : TookText past other was next is = subst (λ (o : Link). TookText past o was next is) here (subst (λ (l : Link). TookText past link was l is) there h) in
-          moved.took (both_left (is_on past other) (joins (port.ClientIn n) other) on) x first taken;
+          moved.took (both_left (is_on past other) (joins (port.ClientIn n) other) on) x first read;
     }
 
 -- ---- to a client

@@ -96,37 +96,37 @@ placed_more plan inputs b past n k links x link before now sound less fill known
     let is = fill.of_plan k x link known here in
     let sends = giver_sends x b past link is gives in
     let number = sends.port in
-    let taken = sends.slots in
-    let me : IsSender plan b past k number taken = record { x = x; known = known; to = sends.to; active = sends.active } in
-    let end = end_at plan k b number x taken sound known sends.to in
-    let within : n < slots_of taken.kind = subst (λ kind. n < slots_of kind) (sym end.0) less in
-    let stand = fill.stand k number taken x link known here sends.to sends.active in
-    let was : WasPut (tributary_of taken number) (got_by x (own_input inputs x) (suc (own_turn x past))) (own_turn x past) n before now =
-    puts.put gives x b number taken (own_input inputs x) (own_turn x past) n stand.0 stand.1.0 sends.to within stand.1.1 in
-    let mine = is_tributary taken number ((sound.entries k x known).to_line b number taken sends.to).list in
+    let read = sends.slots in
+    let me : IsSender plan b past k number read = record { x = x; known = known; to = sends.to; active = sends.active } in
+    let end = end_at plan k b number x read sound known sends.to in
+    let within : n < slots_of read.kind = subst (λ kind. n < slots_of kind) (sym end.0) less in
+    let stand = fill.stand k number read x link known here sends.to sends.active in
+    let was : WasPut (tributary_of read number) (got_by x (own_input inputs x) (suc (own_turn x past))) (own_turn x past) n before now =
+    puts.put gives x b number read (own_input inputs x) (own_turn x past) n stand.0 stand.1.0 sends.to within stand.1.1 in
+    let mine = is_tributary read number ((sound.entries k x known).to_line b number read sends.to).list in
     record {
       own = below_more (λ i. (port : ℕ) (slots : LineSlots) (s : IsSender plan b past i port slots)
           → IsPut (tributary_of slots port) (got_by s.x (own_input inputs s.x) (own_turn s.x past + 1)) (own_turn s.x past) n now) k
           (λ i lt port slots s.
-          stays_apart (tributary_of slots port) (tributary_of taken number) (got_by s.x (own_input inputs s.x) (own_turn s.x past + 1)) (got_by x (own_input inputs x) (suc (own_turn x past)))
+          stays_apart (tributary_of slots port) (tributary_of read number) (got_by s.x (own_input inputs s.x) (own_turn s.x past + 1)) (got_by x (own_input inputs x) (suc (own_turn x past)))
           (own_turn s.x past) (own_turn x past) n before now (is_tributary slots port ((sound.entries i s.x s.known).to_line b port slots s.to).list) mine
-          (stand_apart plan b past i k port number slots taken sound s me lt) (h.own i lt port slots s) was)
-          (λ port slots s. own_put port slots s.x (same_Some x s.x (sym known ∙ s.known)) s.to (put_again (own_turn x past) number taken was.put) sends.to);
+          (stand_apart plan b past i k port number slots read sound s me lt) (h.own i lt port slots s) was)
+          (λ port slots s. own_put port slots s.x (same_Some x s.x (sym known ∙ s.known)) s.to (put_again (own_turn x past) number read was.put) sends.to);
       other = λ row column r1 r4 c1 c4 none.
-          was.kept row column r1 r4 c1 c4 (none k (omega arith) number taken me)
+          was.kept row column r1 r4 c1 c4 (none k (omega arith) number read me)
           ∙ h.other row column r1 r4 c1 c4 (λ i lt. none i (omega arith));
     }
   where
     put_again : (j port : ℕ) (slots : LineSlots) → IsPut (tributary_of slots port) (got_by x (own_input inputs x) (suc j)) j n now → IsPut (tributary_of slots port) (got_by x (own_input inputs x) (j + 1)) j n now
     put_again j port slots put = subst (λ m. IsPut (tributary_of slots port) (got_by x (own_input inputs x) m) j n now) (sym (add-one j)) put
 
-    own_put : (port : ℕ) (slots : LineSlots) (y : Connection) → x ≡ y → y.to ≡ to_end.Line b port slots → {number : ℕ} {taken : LineSlots}
-        → IsPut (tributary_of taken number) (got_by x (own_input inputs x) (own_turn x past + 1)) (own_turn x past) n now → x.to ≡ to_end.Line b number taken
+    own_put : (port : ℕ) (slots : LineSlots) (y : Connection) → x ≡ y → y.to ≡ to_end.Line b port slots → {number : ℕ} {read : LineSlots}
+        → IsPut (tributary_of read number) (got_by x (own_input inputs x) (own_turn x past + 1)) (own_turn x past) n now → x.to ≡ to_end.Line b number read
         → IsPut (tributary_of slots port) (got_by y (own_input inputs y) (own_turn y past + 1)) (own_turn y past) n now
-    own_put port slots y one to {number} {taken} put is_to =
-        let ends : to_end.Line b number taken ≡ to_end.Line b port slots = sym is_to ∙ ap (λ (z : Connection). z.to) one ∙ to in
+    own_put port slots y one to {number} {read} put is_to =
+        let ends : to_end.Line b number read ≡ to_end.Line b port slots = sym is_to ∙ ap (λ (z : Connection). z.to) one ∙ to in
         let ports : number ≡ port = cc in
-        let lists : taken ≡ slots = cc in
+        let lists : read ≡ slots = cc in
         subst (λ z. IsPut (tributary_of slots port) (got_by z (own_input inputs z) (own_turn z past + 1)) (own_turn z past) n now) one
         (subst (λ p. IsPut (tributary_of slots p) (got_by x (own_input inputs x) (own_turn x past + 1)) (own_turn x past) n now) ports
         (subst (λ s. IsPut (tributary_of s number) (got_by x (own_input inputs x) (own_turn x past + 1)) (own_turn x past) n now) lists put))
@@ -177,24 +177,24 @@ allotted_more plan inputs b past n k links x link before now sound fill known he
     let is = fill.of_plan k x link known here in
     let sends = giver_sends x b past link is gives in
     let number = sends.port in
-    let taken = sends.slots in
-    let me : IsSender plan b past k number taken = record { x = x; known = known; to = sends.to; active = sends.active } in
-    let end = end_at plan k b number x taken sound known sends.to in
-    let given : IsGiven taken.list number before now =
-    allots.given gives b number taken (to_as x link is ∙ sends.to) end.0 end.1 (subst (λ kind. number ≤ slots_of kind) end.0 end.2) in
+    let read = sends.slots in
+    let me : IsSender plan b past k number read = record { x = x; known = known; to = sends.to; active = sends.active } in
+    let end = end_at plan k b number x read sound known sends.to in
+    let given : IsGiven read.list number before now =
+    allots.given gives b number read (to_as x link is ∙ sends.to) end.0 end.1 (subst (λ kind. number ≤ slots_of kind) end.0 end.2) in
     record {
       own = below_more (λ i. (port : ℕ) (slots : LineSlots) → IsSender plan b past i port slots → (slot : ℕ) → Contains slots.list slot → port_at now slot ≡ port) k
           (λ i lt port slots s slot has.
           given.others slot (slot_least plan i b port slot s.x slots sound s.known s.to has)
-          (λ mine. let same = sound.slots_apart i k b past port number slot slots taken s me has mine in omega arith)
+          (λ mine. let same = sound.slots_apart i k b past port number slot slots read s me has mine in omega arith)
           ∙ h.own i lt port slots s slot has)
           (λ port slots s slot has.
           let one : x ≡ s.x = same_Some x s.x (sym known ∙ s.known) in
-          let ends : to_end.Line b number taken ≡ to_end.Line b port slots = sym sends.to ∙ ap (λ (z : Connection). z.to) one ∙ s.to in
+          let ends : to_end.Line b number read ≡ to_end.Line b port slots = sym sends.to ∙ ap (λ (z : Connection). z.to) one ∙ s.to in
           let ports : number ≡ port = cc in
-          let lists : slots ≡ taken = cc in
+          let lists : slots ≡ read = cc in
           given.given slot (subst (λ (l : LineSlots). Contains l.list slot) lists has) ∙ ports);
-      other = λ slot least none. given.others slot least (none k (omega arith) number taken me) ∙ h.other slot least (λ i lt. none i (omega arith));
+      other = λ slot least none. given.others slot least (none k (omega arith) number read me) ∙ h.other slot least (λ i lt. none i (omega arith));
     }
 
 allotted_next : (plan : Plan) (inputs : Inputs) (b past n : ℕ) (links : List Link) → IsSoundPlan plan → FillLine plan inputs b past n links

@@ -45,8 +45,8 @@ pub record SameEntry (old new : Link) : Type 0 where
 -- what holds of a client's connection, whatever was taken of the client and may yet come: of its entry, what the client
 -- may turn out to be, and how many bytes of its stream were emitted
 abbrev pub OfItsClient : Link → ((x : Connection) → ClientInput → (emitted : ℕ) → Type 0) → Type 0
-OfItsClient link Holds = (x : Connection) (first now : InView) (taken : List ℕ) (n : ℕ) (input : ClientInput)
-    → ClientInStands x first now taken n link.pipe.taking → MayShow link.pipe.taking taken (of_client input)
+OfItsClient link Holds = (x : Connection) (first now : InView) (read : List ℕ) (n : ℕ) (input : ClientInput)
+    → ClientInStands x first now read n link.pipe.taking → MayShow link.pipe.taking read (of_client input)
     → Holds x input (emitted_before x.pace n)
 
 -- what holds of a connection wherever its pipe stands: of its entry, its own input, and how many own turns it has taken

@@ -44,7 +44,7 @@ pub record TookFrame (takes : Bool) (frame : Taken) (old new : Link) : Type 0 wh
 -- line a does a piece: where that came to a frame, the frame goes to each connection that takes from the line
 pub record ReadsLine (past a : ℕ) (old : LineView) (was : InView) (links : List Link) (new : LineView) (is : InView)
     (next : List Link) : Type 0 where
-  pub stands : AsStood was old (λ form first taken t. PieceStands form first is taken t old new)
+  pub stands : AsStood was old (λ form first read t. PieceStands form first is read t old new)
   pub pieces : new.pieces ≡ old.pieces + 1
   pub kind : new.kind ≡ old.kind
   pub expected : ℕ
@@ -96,9 +96,9 @@ pub record TakesClient (past n : ℕ) (was : InView) (links : List Link) (is : I
       → takes_part past (port.ClientIn n) link ≡ true
       → ((j : ℕ) (other : Link) → slice_get links j ≡ Some other → takes_part past (port.ClientIn n) other ≡ true
       → j ≡ i)
-      → (x : Connection) (first : InView) (taken : List ℕ) → IsLinkOf x link
-      → ClientInStands x first was taken (own_turn x past) link.pipe.taking
-      → ClientTook x first is taken (own_turn x past) link.pipe then.pipe
+      → (x : Connection) (first : InView) (read : List ℕ) → IsLinkOf x link
+      → ClientInStands x first was read (own_turn x past) link.pipe.taking
+      → ClientTook x first is read (own_turn x past) link.pipe then.pipe
 
 -- the connection that gives to client n gives what turn past + 1 brings it; or none does
 pub record GivesClient (past n : ℕ) (was : OutView) (links : List Link) (is : OutView) (next : List Link) : Type 0 where
@@ -122,7 +122,7 @@ pub record GivesClient (past n : ℕ) (was : OutView) (links : List Link) (is : 
 
 -- the turn of a line that is used ends, and this says whether it has a multiframe
 pub record LineEnds (old new : LineView) (whole : Bool) : Type 0 where
-  pub stands : (now : InView) → AsStood now old (λ form first taken t. LineStands form first now taken (t + 1) new)
+  pub stands : (now : InView) → AsStood now old (λ form first read t. LineStands form first now read (t + 1) new)
   pub ending : new.reader.ending ≡ old.reader.ending
   pub kind : new.kind ≡ old.kind
   pub multiframe : InItsTurn old (λ form given t. whole ≡ is_some (multiframe (size_of form) (mfas_of given) t))

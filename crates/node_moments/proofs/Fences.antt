@@ -50,12 +50,12 @@ started_before start past now e le differ = elim (eqb_tells start (past + 1 + 1)
 
 -- ---- what the inputs may be
 
-line_before : (old new : NodeView) (wholes : List Bool) (plan : Plan) (taken : InputBytes) (inputs : Inputs) → PlanStands plan old → FenceMove old new → MayGive plan taken new inputs
-    → (a : ℕ) (line : LineView) → HasLineIn old a line → uses plan (port.LineIn a) ≡ true → MayBe (form_in plan a).scrambled line.reader.ending (taken.line a) (inputs.line a)
-line_before old new wholes plan taken inputs p m may a line had used =
+line_before : (old new : NodeView) (wholes : List Bool) (plan : Plan) (read : InputBytes) (inputs : Inputs) → PlanStands plan old → FenceMove old new → MayGive plan read new inputs
+    → (a : ℕ) (line : LineView) → HasLineIn old a line → uses plan (port.LineIn a) ≡ true → MayBe (form_in plan a).scrambled line.reader.ending (read.line a) (inputs.line a)
+line_before old new wholes plan read inputs p m may a line had used =
     let next = known_at old.lines_in new.lines_in a line (sym m.count) had in
     let ends = m.used a line next.0 (some_wanted plan old (port.LineIn a) p used) had next.1 in
-    subst (λ ending. MayBe (form_in plan a).scrambled ending (taken.line a) (inputs.line a)) ends.ending (may.lines a next.0 next.1 used)
+    subst (λ ending. MayBe (form_in plan a).scrambled ending (read.line a) (inputs.line a)) ends.ending (may.lines a next.0 next.1 used)
 
 -- what a client has is as it was
 same_taking : (old : NodeView) (wholes : List Bool) (i n : ℕ) (x : Connection) (link : Link) (t : Turned old wholes i x link) → x.start ≢ old.past + 1 + 1 → x.from ≡ from_end.Client n
@@ -66,22 +66,22 @@ same_giving : (old : NodeView) (wholes : List Bool) (i n : ℕ) (x : Connection)
     → link.pipe.giving ≡ t.before.pipe.giving
 same_giving old wholes i n x link t differ to = ap (λ (l : Link). l.pipe.giving) (not_started old wholes i x link t differ) ∙ t.turns.fences.receiver x n t.was to
 
-client_before : (old new : NodeView) (plan : Plan) (taken : InputBytes) (inputs : Inputs) → PlanStands plan old → FenceMove old new → MayGive plan taken new inputs
+client_before : (old new : NodeView) (plan : Plan) (read : InputBytes) (inputs : Inputs) → PlanStands plan old → FenceMove old new → MayGive plan read new inputs
     → (i n : ℕ) (x : Connection) (link : Link) → slice_get plan.connections i ≡ Some x → HasLink old i link → x.from ≡ from_end.Client n → x.start ≤ old.past + 1
-    → MayShow link.pipe.taking (taken.client n) (of_client (inputs.client n))
-client_before old new plan taken inputs p m may i n x link at had from start =
+    → MayShow link.pipe.taking (read.client n) (of_client (inputs.client n))
+client_before old new plan read inputs p m may i n x link at had from start =
     let next = known_at old.links new.links i link (sym m.links.count) had in
     let t = m.links.each i link next.0 had next.1 in
     let was = p.links i x link at had in
     let mid : t.between.entry.start ≡ x.start = start_as x t.between (still_link x link t.between t.fences.same was) in
     let unstarted : next.0 ≡ t.between = t.starts.other (λ e. absurd (omega arith)) in
     let same : next.0.pipe.taking ≡ link.pipe.taking = ap (λ (l : Link). l.pipe.taking) unstarted ∙ t.fences.text x n was from in
-    subst (λ part. MayShow part (taken.client n) (of_client (inputs.client n))) same (may.clients i n x next.0 at next.1 from (let past = m.past in omega arith))
+    subst (λ part. MayShow part (read.client n) (of_client (inputs.client n))) same (may.clients i n x next.0 at next.1 from (let past = m.past in omega arith))
 
-fence_earlier : (old new : NodeView) (plan : Plan) (taken : InputBytes) → PlanStands plan old → FenceMove old new → (inputs : Inputs) → MayGive plan taken new inputs → MayGive plan taken old inputs
-fence_earlier old new plan taken p m inputs may = record {
-  lines = line_before old new m.wholes plan taken inputs p m may;
-  clients = client_before old new plan taken inputs p m may;
+fence_earlier : (old new : NodeView) (plan : Plan) (read : InputBytes) → PlanStands plan old → FenceMove old new → (inputs : Inputs) → MayGive plan read new inputs → MayGive plan read old inputs
+fence_earlier old new plan read p m inputs may = record {
+  lines = line_before old new m.wholes plan read inputs p m may;
+  clients = client_before old new plan read inputs p m may;
 }
 
 -- ---- the plan
@@ -111,32 +111,32 @@ taken_all plan old done i x at (from_end.Signal signal) e = refl
 -- ---- pipes
 
 -- whether a line has a multiframe in the turn is said of whatever the line may turn out to be
-has_multiframe : (plan : Plan) (first : BaysView) (taken : InputBytes) (old new : NodeView) (was : BaysView) (inputs : Inputs) → PlanStands plan old → (m : FenceMove old new) → ((a : ℕ) → LineInAt plan first taken old was a)
-    → MayGive plan taken old inputs → (a : ℕ) → uses plan (port.LineIn a) ≡ true → get_or m.wholes a false ≡ is_some (multiframe (size_of (form_in plan a)) (mfas_of (inputs.line a)) old.past)
-has_multiframe plan first taken old new was inputs p m h may a u =
+has_multiframe : (plan : Plan) (first : BaysView) (read : InputBytes) (old new : NodeView) (was : BaysView) (inputs : Inputs) → PlanStands plan old → (m : FenceMove old new) → ((a : ℕ) → LineInAt plan first read old was a)
+    → MayGive plan read old inputs → (a : ℕ) → uses plan (port.LineIn a) ≡ true → get_or m.wholes a false ≡ is_some (multiframe (size_of (form_in plan a)) (mfas_of (inputs.line a)) old.past)
+has_multiframe plan first read old new was inputs p m h may a u =
     let l = used_line plan old new p m a u in
-    l.ends.multiframe (line_in_at was a) (form_in plan a) (line_in_at first a) (taken.line a) old.past (h a l.line l.had u).0 (inputs.line a) (may.lines a l.line l.had u)
+    l.ends.multiframe (line_in_at was a) (form_in plan a) (line_in_at first a) (read.line a) old.past (h a l.line l.had u).0 (inputs.line a) (may.lines a l.line l.had u)
 
 -- the pipe of a connection that is active in the next turn too
-pipe_goes_on : (plan : Plan) (first : BaysView) (taken : InputBytes) (old new : NodeView) (was : BaysView) (inputs : Inputs) → PlanStands plan old → (m : FenceMove old new)
-    → ((name : PortName) → uses plan name ≡ true → done_at old name ≡ pieces_by plan name) → ((a : ℕ) → LineInAt plan first taken old was a) → PipesStand plan taken old → MayGive plan taken old inputs
+pipe_goes_on : (plan : Plan) (first : BaysView) (read : InputBytes) (old new : NodeView) (was : BaysView) (inputs : Inputs) → PlanStands plan old → (m : FenceMove old new)
+    → ((name : PortName) → uses plan name ≡ true → done_at old name ≡ pieces_by plan name) → ((a : ℕ) → LineInAt plan first read old was a) → PipesStand plan read old → MayGive plan read old inputs
     → (i : ℕ) (x : Connection) (link : Link) → slice_get plan.connections i ≡ Some x → (t : Turned old m.wholes i x link) → IsActive x old.past
     → PipeStands x (own_input inputs x) (suc (own_turn x old.past)) [] false 0 t.turns.between.pipe
-pipe_goes_on plan first taken old new was inputs p m done lines pipes may i x link at t active =
+pipe_goes_on plan first read old new was inputs p m done lines pipes may i x link at t active =
     let sound = (sound_plan plan p.accepted).entries i x at in
     let stood = pipes.each inputs may i x t.before at t.had active in
     let pieces : taken_pieces old x.from ≡ pieces_from plan x.from = taken_all plan old done i x at x.from refl in
     let on = on_active x old.past t.before t.was active in
     next_pipe plan inputs x old.past (given_pieces old x.to) m.wholes t.before t.turns.between sound t.was on t.turns.fences
-    (λ a number slots e. has_multiframe plan first taken old new was inputs p m lines may a (from_line_used plan i a number slots x at e)) x.from refl
+    (λ a number slots e. has_multiframe plan first read old new was inputs p m lines may a (from_line_used plan i a number slots x at e)) x.from refl
     (at_end plan inputs x old.past (own_turn x old.past) (given_pieces old x.to) (taken_pieces old x.from) x.from t.before.pipe refl pieces stood)
 
 -- the pipe of any connection that is active in the next turn
-pipe_next : (plan : Plan) (first : BaysView) (taken : InputBytes) (old new : NodeView) (was : BaysView) (inputs : Inputs) → PlanStands plan old → (m : FenceMove old new)
-    → ((name : PortName) → uses plan name ≡ true → done_at old name ≡ pieces_by plan name) → ((a : ℕ) → LineInAt plan first taken old was a) → PipesStand plan taken old → MayGive plan taken old inputs
+pipe_next : (plan : Plan) (first : BaysView) (read : InputBytes) (old new : NodeView) (was : BaysView) (inputs : Inputs) → PlanStands plan old → (m : FenceMove old new)
+    → ((name : PortName) → uses plan name ≡ true → done_at old name ≡ pieces_by plan name) → ((a : ℕ) → LineInAt plan first read old was a) → PipesStand plan read old → MayGive plan read old inputs
     → (i : ℕ) (x : Connection) (link : Link) → slice_get plan.connections i ≡ Some x → (t : Turned old m.wholes i x link) → IsActive x (old.past + 1)
     → PipeStands x (own_input inputs x) (own_turn x (old.past + 1)) [] false 0 link.pipe
-pipe_next plan first taken old new was inputs p m done lines pipes may i x link at t active = elim (eqb_tells x.start (old.past + 1 + 1)) [
+pipe_next plan first read old new was inputs p m done lines pipes may i x link at t active = elim (eqb_tells x.start (old.past + 1 + 1)) [
   | inl e ↦
       let now : t.turns.between.entry.start ≡ old.past + 1 + 1 = start_as x t.turns.between t.mid ∙ e.1 in
       let zeroth : 0 ≡ own_turn x (old.past + 1) = (let s = e.1 in omega arith) in
@@ -147,58 +147,58 @@ pipe_next plan first taken old new was inputs p m done lines pipes may i x link 
       let before : IsActive x old.past = record { start = start; stop = (let a = active.stop in omega arith) } in
       subst (λ j. PipeStands x (own_input inputs x) j [] false 0 link.pipe) (own_next x old.past t.was.first start)
       (subst (λ (l : Link). PipeStands x (own_input inputs x) (suc (own_turn x old.past)) [] false 0 l.pipe) (sym same)
-      (pipe_goes_on plan first taken old new was inputs p m done lines pipes may i x link at t before))
+      (pipe_goes_on plan first read old new was inputs p m done lines pipes may i x link at t before))
 ]
 
 -- the pipe of one whose last turn this was
-pipe_last : (plan : Plan) (first : BaysView) (taken : InputBytes) (old new : NodeView) (was : BaysView) (inputs : Inputs) → PlanStands plan old → (m : FenceMove old new)
-    → ((name : PortName) → uses plan name ≡ true → done_at old name ≡ pieces_by plan name) → ((a : ℕ) → LineInAt plan first taken old was a) → PipesStand plan taken old → MayGive plan taken old inputs
+pipe_last : (plan : Plan) (first : BaysView) (read : InputBytes) (old new : NodeView) (was : BaysView) (inputs : Inputs) → PlanStands plan old → (m : FenceMove old new)
+    → ((name : PortName) → uses plan name ≡ true → done_at old name ≡ pieces_by plan name) → ((a : ℕ) → LineInAt plan first read old was a) → PipesStand plan read old → MayGive plan read old inputs
     → (i : ℕ) (x : Connection) (link : Link) → slice_get plan.connections i ≡ Some x → (t : Turned old m.wholes i x link) → x.stop ≡ old.past + 1
     → PipeStands x (own_input inputs x) (own_turn x (old.past + 1)) [] false 0 link.pipe
-pipe_last plan first taken old new was inputs p m done lines pipes may i x link at t stop =
+pipe_last plan first read old new was inputs p m done lines pipes may i x link at t stop =
     let start : x.start ≤ old.past + 1 = (let span = ((sound_plan plan p.accepted).entries i x at).span in omega arith) in
     let same : link ≡ t.turns.between = not_started old m.wholes i x link t (λ e. absurd (omega arith)) in
     let before : IsActive x old.past = record { start = start; stop = omega arith } in
     subst (λ j. PipeStands x (own_input inputs x) j [] false 0 link.pipe) (own_next x old.past t.was.first start)
     (subst (λ (l : Link). PipeStands x (own_input inputs x) (suc (own_turn x old.past)) [] false 0 l.pipe) (sym same)
-    (pipe_goes_on plan first taken old new was inputs p m done lines pipes may i x link at t before))
+    (pipe_goes_on plan first read old new was inputs p m done lines pipes may i x link at t before))
 
-fence_pipes : (plan : Plan) (first : BaysView) (taken : InputBytes) (old new : NodeView) (was : BaysView) → PlanStands plan old → FenceMove old new
-    → ((name : PortName) → uses plan name ≡ true → done_at old name ≡ pieces_by plan name) → ((a : ℕ) → LineInAt plan first taken old was a) → PipesStand plan taken old → PipesStand plan taken new
-fence_pipes plan first taken old new was p m done lines pipes = record {
+fence_pipes : (plan : Plan) (first : BaysView) (read : InputBytes) (old new : NodeView) (was : BaysView) → PlanStands plan old → FenceMove old new
+    → ((name : PortName) → uses plan name ≡ true → done_at old name ≡ pieces_by plan name) → ((a : ℕ) → LineInAt plan first read old was a) → PipesStand plan read old → PipesStand plan read new
+fence_pipes plan first read old new was p m done lines pipes = record {
   each = λ inputs may i x link at has active.
       let t = turned plan old new p m i x link at has in
       let on : IsActive x (old.past + 1) = subst (IsActive x) m.past active in
-      let next = pipe_next plan first taken old new was inputs p m done lines pipes (fence_earlier old new plan taken p m inputs may) i x link at t on in
+      let next = pipe_next plan first read old new was inputs p m done lines pipes (fence_earlier old new plan read p m inputs may) i x link at t on in
       at_start plan inputs x new.past (own_turn x new.past) (taken_pieces new x.from) (given_pieces new x.to) link.pipe (none_taken new (none_done old new m) x.from) (none_given new (none_done old new m) x.to)
       (subst (λ n. PipeStands x (own_input inputs x) (own_turn x n) [] false 0 link.pipe) (sym m.past) next);
   last = λ inputs may i x link at has stop.
       subst (λ n. PipeStands x (own_input inputs x) (own_turn x n) [] false 0 link.pipe) (sym m.past)
-      (pipe_last plan first taken old new was inputs p m done lines pipes (fence_earlier old new plan taken p m inputs may) i x link at (turned plan old new p m i x link at has) (stop ∙ m.past));
+      (pipe_last plan first read old new was inputs p m done lines pipes (fence_earlier old new plan read p m inputs may) i x link at (turned plan old new p m i x link at has) (stop ∙ m.past));
 }
 
 -- ---- lines
 
-fence_line_in : (plan : Plan) (first : BaysView) (taken : InputBytes) (old new : NodeView) (was is : BaysView) (a : ℕ) → PlanStands plan old → FenceMove old new → RetiredBy old.past old.links was is
-    → LineInAt plan first taken old was a → PortStands plan first taken new is (port.LineIn a)
-fence_line_in plan first taken old new was is a p m retired h = λ next has u.
+fence_line_in : (plan : Plan) (first : BaysView) (read : InputBytes) (old new : NodeView) (was is : BaysView) (a : ℕ) → PlanStands plan old → FenceMove old new → RetiredBy old.past old.links was is
+    → LineInAt plan first read old was a → PortStands plan first read new is (port.LineIn a)
+fence_line_in plan first read old new was is a p m retired h = λ next has u.
     let line = known_at new.lines_in old.lines_in a next m.count has in
     let ends = m.used a line.0 next (some_wanted plan old (port.LineIn a) p u) line.1 has in
     let place : line_in_at is a ≡ line_in_at was a = ap (λ l. get_or l a no_input) retired.line_in in (
-      subst (λ n. LineStands (form_in plan a) (line_in_at first a) (line_in_at is a) (taken.line a) n next) (sym m.past)
-          (subst (λ v. LineStands (form_in plan a) (line_in_at first a) v (taken.line a) (old.past + 1) next) (sym place)
-          (ends.stands (line_in_at was a) (form_in plan a) (line_in_at first a) (taken.line a) old.past (h line.0 line.1 u).0)),
+      subst (λ n. LineStands (form_in plan a) (line_in_at first a) (line_in_at is a) (read.line a) n next) (sym m.past)
+          (subst (λ v. LineStands (form_in plan a) (line_in_at first a) v (read.line a) (old.past + 1) next) (sym place)
+          (ends.stands (line_in_at was a) (form_in plan a) (line_in_at first a) (read.line a) old.past (h line.0 line.1 u).0)),
       ends.pieces ∙ sym (m.fresh.none (index_of (port.LineIn a))),
     )
 
 frames_next : (size past now d d' : ℕ) → now ≡ past + 1 → d' ≡ 0 → d ≡ size → size * past + d ≡ size * now + d'
 frames_next size past now d d' e none all = rw (e, none, all) (omega arith)
 
-fence_line_out : (plan : Plan) (first : BaysView) (taken : InputBytes) (old new : NodeView) (was is : BaysView) (b : ℕ) → PlanStands plan old → FenceMove old new → RetiredBy old.past old.links was is
-    → ((name : PortName) → uses plan name ≡ true → done_at old name ≡ pieces_by plan name) → LineOutAt plan first taken old was b → PortStands plan first taken new is (port.LineOut b)
-fence_line_out plan first taken old new was is b p m retired done h = λ inputs may line has u.
+fence_line_out : (plan : Plan) (first : BaysView) (read : InputBytes) (old new : NodeView) (was is : BaysView) (b : ℕ) → PlanStands plan old → FenceMove old new → RetiredBy old.past old.links was is
+    → ((name : PortName) → uses plan name ≡ true → done_at old name ≡ pieces_by plan name) → LineOutAt plan first read old was b → PortStands plan first read new is (port.LineOut b)
+fence_line_out plan first read old new was is b p m retired done h = λ inputs may line has u.
     let had : HasLineOut old b line = ap (λ ls. slice_get ls b) (sym m.lines_out) ∙ has in
-    let stood = h inputs (fence_earlier old new plan taken p m inputs may) line had u in
+    let stood = h inputs (fence_earlier old new plan read p m inputs may) line had u in
     let place : line_out_at is b ≡ line_out_at was b = ap (λ l. get_or l b no_output) retired.line_out in
     let count = frames_next (size_of (form_out plan b)) old.past new.past (done_at old (port.LineOut b)) (done_at new (port.LineOut b)) m.past (m.fresh.none (index_of (port.LineOut b)))
     (done (port.LineOut b) u) in (
@@ -210,13 +210,13 @@ fence_line_out plan first taken old new was is b p m retired done h = λ inputs 
 -- ---- clients
 
 -- A client's place is emptied where a connection that ends here is at it, which only its own may be.
-fence_client : {P : Type 0} (plan : Plan) (name : PortName) (old new : NodeView) (first was is : P) (empties : Bool → P → P) (Part Then : Connection → Link → P → ℕ → Type 0) (taken : List ℕ) → is_client_port name ≡ true
+fence_client : {P : Type 0} (plan : Plan) (name : PortName) (old new : NodeView) (first was is : P) (empties : Bool → P → P) (Part Then : Connection → Link → P → ℕ → Type 0) (read : List ℕ) → is_client_port name ≡ true
     → ((v : P) → empties false v ≡ v) → ((a b : Bool) (v : P) → empties (a || b) v ≡ empties b (empties a v)) → PlanStands plan old → (m : FenceMove old new) → (uses plan name ≡ true → done_at old name ≡ 1)
     → is ≡ empties (some_passes (ends_here old.past) (joins name) old.links) was
-    → ((i : ℕ) (x : Connection) (link : Link) → (t : Turned old m.wholes i x link) → touches name x ≡ true → t.turns.between.entry.start ≡ old.past + 1 + 1 → taken ≡ [] → Then x link first 0)
+    → ((i : ℕ) (x : Connection) (link : Link) → (t : Turned old m.wholes i x link) → touches name x ≡ true → t.turns.between.entry.start ≡ old.past + 1 + 1 → read ≡ [] → Then x link first 0)
     → ((i : ℕ) (x : Connection) (link : Link) → (t : Turned old m.wholes i x link) → touches name x ≡ true → x.start ≢ old.past + 1 + 1 → (v : P) (k : ℕ) → Part x t.before v k → Then x link v k)
-    → ClientStands plan old name first was empties Part taken → ClientStands plan new name first is empties Then taken
-fence_client plan name old new first was is empties Part Then taken client stays twice p m done gone starts goes_on h = record {
+    → ClientStands plan old name first was empties Part read → ClientStands plan new name first is empties Then read
+fence_client plan name old new first was is empties Part Then read client stays twice p m done gone starts goes_on h = record {
   started = λ i x link at has touched start.
       let t = turned plan old new p m i x link at has in
       let sound = (sound_plan plan p.accepted).entries i x at in
@@ -245,22 +245,22 @@ fence_client plan name old new first was is empties Part Then taken client stays
 
 -- ---- all parts
 
-fence_port : (plan : Plan) (first : BaysView) (taken : InputBytes) (old new : NodeView) (was is : BaysView) → PlanStands plan old → FenceMove old new → RetiredBy old.past old.links was is
-    → ((name : PortName) → uses plan name ≡ true → done_at old name ≡ pieces_by plan name) → (name : PortName) → PortStands plan first taken old was name → PortStands plan first taken new is name
-fence_port plan first taken old new was is p m retired done (port.LineIn a) h = fence_line_in plan first taken old new was is a p m retired h
-fence_port plan first taken old new was is p m retired done (port.LineOut b) h = fence_line_out plan first taken old new was is b p m retired done h
-fence_port plan first taken old new was is p m retired done (port.ClientIn n) h =
-    fence_client plan (port.ClientIn n) old new (client_in_at first n) (client_in_at was n) (client_in_at is n) after_retire (GivesText first taken n) (GivesText first taken n) (taken.client n) refl (λ v. refl) after_or p m
+fence_port : (plan : Plan) (first : BaysView) (read : InputBytes) (old new : NodeView) (was is : BaysView) → PlanStands plan old → FenceMove old new → RetiredBy old.past old.links was is
+    → ((name : PortName) → uses plan name ≡ true → done_at old name ≡ pieces_by plan name) → (name : PortName) → PortStands plan first read old was name → PortStands plan first read new is name
+fence_port plan first read old new was is p m retired done (port.LineIn a) h = fence_line_in plan first read old new was is a p m retired h
+fence_port plan first read old new was is p m retired done (port.LineOut b) h = fence_line_out plan first read old new was is b p m retired done h
+fence_port plan first read old new was is p m retired done (port.ClientIn n) h =
+    fence_client plan (port.ClientIn n) old new (client_in_at first n) (client_in_at was n) (client_in_at is n) after_retire (GivesText first read n) (GivesText first read n) (read.client n) refl (λ v. refl) after_or p m
     (done (port.ClientIn n)) (retired.client_in n)
     (λ i x link t touched now none. subst (λ bytes. ClientInStands x (client_in_at first n) (client_in_at first n) bytes 0 link.pipe.taking) (sym none)
     (t.turns.starts.client_in now x n (client_in_at first n) t.mid (from_client n x.from touched)))
-    (λ i x link t touched differ v k stood. subst (λ part. ClientInStands x (client_in_at first n) v (taken.client n) k part) (sym (same_taking old m.wholes i n x link t differ (from_client n x.from touched))) stood) h
-fence_port plan first taken old new was is p m retired done (port.ClientOut n) h =
-    fence_client plan (port.ClientOut n) old new (client_out_at first n) (client_out_at was n) (client_out_at is n) out_after_retire (GetsText plan first taken old n) (GetsText plan first taken new n) [] refl (λ v. refl) out_after_or p m
+    (λ i x link t touched differ v k stood. subst (λ part. ClientInStands x (client_in_at first n) v (read.client n) k part) (sym (same_taking old m.wholes i n x link t differ (from_client n x.from touched))) stood) h
+fence_port plan first read old new was is p m retired done (port.ClientOut n) h =
+    fence_client plan (port.ClientOut n) old new (client_out_at first n) (client_out_at was n) (client_out_at is n) out_after_retire (GetsText plan first read old n) (GetsText plan first read new n) [] refl (λ v. refl) out_after_or p m
     (done (port.ClientOut n)) (retired.client_out n)
     (λ i x link t touched now none. λ inputs may. t.turns.starts.client_out now x n (own_input inputs x) (client_out_at first n) t.mid (to_client n x.to touched))
     (λ i x link t touched differ v k stood. λ inputs may. subst (λ part. ClientOutStands x (own_input inputs x) (client_out_at first n) v k part) (sym (same_giving old m.wholes i n x link t differ (to_client n x.to touched)))
-    (stood inputs (fence_earlier old new plan taken p m inputs may))) h
+    (stood inputs (fence_earlier old new plan read p m inputs may))) h
 
 -- a place that is not used is not emptied
 fence_idle : (plan : Plan) (old : NodeView) (was is : BaysView) → PlanStands plan old → RetiredBy old.past old.links was is → (name : PortName) → uses plan name ≡ false → place_at is name ≡ place_at was name
@@ -272,18 +272,18 @@ fence_idle plan old was is p retired (port.ClientOut n) u =
     ap Output (retired.client_out n ∙ ap (λ b. out_after_retire b (client_out_at was n)) (idle_passes (ends_here old.past) plan old (port.ClientOut n) p u))
 
 -- The end of a turn leads from any moment at which no port is ready to the first one of the next turn.
-pub fence_moves : (plan : Plan) (first : BaysView) (taken : InputBytes) (old new : NodeView) (was is : BaysView) → old.past < old.turns → ((name : PortName) → is_ready old name ≡ false) → FenceMove old new
-    → RetiredBy old.past old.links was is → StandsAt plan first taken old was → Later plan first taken old new is
-fence_moves plan first taken old new was is going none m retired h =
+pub fence_moves : (plan : Plan) (first : BaysView) (read : InputBytes) (old new : NodeView) (was is : BaysView) → old.past < old.turns → ((name : PortName) → is_ready old name ≡ false) → FenceMove old new
+    → RetiredBy old.past old.links was is → StandsAt plan first read old was → Later plan first read old new is
+fence_moves plan first read old new was is going none m retired h =
     let p = h.plan_stands in
     let done = all_done plan old p going none in
     record {
-      more = taken;
+      more = read;
       stands = record {
         plan_stands = fence_plan plan old new going p m;
-        pipes = fence_pipes plan first taken old new was p m done (λ a. h.ports (port.LineIn a)) h.pipes;
-        ports = λ name. fence_port plan first taken old new was is p m retired done name (h.ports name);
+        pipes = fence_pipes plan first read old new was p m done (λ a. h.ports (port.LineIn a)) h.pipes;
+        ports = λ name. fence_port plan first read old new was is p m retired done name (h.ports name);
         idle = λ name u. fence_idle plan old was is p retired name u ∙ h.idle name u;
       };
-      earlier = fence_earlier old new plan taken p m;
+      earlier = fence_earlier old new plan read p m;
     }

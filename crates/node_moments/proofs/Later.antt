@@ -13,12 +13,12 @@ use Rattle.turn_pieces.proofs.PieceCounts.{left_counted, turn_counted, left_fres
 
 -- ---- moments
 
-pub later_none : (plan : Plan) (first : BaysView) (taken : InputBytes) (node : NodeView) (now : BaysView) → StandsAt plan first taken node now → Later plan first taken node node now
-later_none plan first taken node now h = record { more = taken; stands = h; earlier = λ inputs may. may }
+pub later_none : (plan : Plan) (first : BaysView) (read : InputBytes) (node : NodeView) (now : BaysView) → StandsAt plan first read node now → Later plan first read node node now
+later_none plan first read node now h = record { more = read; stands = h; earlier = λ inputs may. may }
 
-pub later_twice : (plan : Plan) (first : BaysView) (taken : InputBytes) (old mid new : NodeView) (was is : BaysView) → (l : Later plan first taken old mid was)
-    → (StandsAt plan first l.more mid was → Later plan first l.more mid new is) → Later plan first taken old new is
-later_twice plan first taken old mid new was is l next =
+pub later_twice : (plan : Plan) (first : BaysView) (read : InputBytes) (old mid new : NodeView) (was is : BaysView) → (l : Later plan first read old mid was)
+    → (StandsAt plan first l.more mid was → Later plan first l.more mid new is) → Later plan first read old new is
+later_twice plan first read old mid new was is l next =
     let k = next l.stands in
     record { more = k.more; stands = k.stands; earlier = λ inputs may. l.earlier inputs (k.earlier inputs may) }
 

@@ -38,52 +38,52 @@ use Rattle.node_moments.proofs.PieceMoves.{Step, done_but, earlier_by, PipeMoves
 
 -- ---- the frames that pieces came to
 
-frames_suc : (size : ℕ) (given : List ℕ) (past k : ℕ) → frames_in size given past (suc k) ≡ frames_in size given past k ++ member_of given (in_hand size (mfas_of given) (line_state size (mfas_of given) past) (suc k))
+frames_suc : (size : ℕ) (available : List ℕ) (past k : ℕ) → frames_in size available past (suc k) ≡ frames_in size available past k ++ member_of available (in_hand size (mfas_of available) (line_state size (mfas_of available) past) (suc k))
 unfolding frames_in
-frames_suc size given past k = refl
+frames_suc size available past k = refl
 
-frames_next : (size : ℕ) (given : List ℕ) (past k : ℕ)
-    → frames_in size given past (k + 1) ≡ frames_in size given past k ++ member_of given (in_hand size (mfas_of given) (line_state size (mfas_of given) past) (k + 1))
-frames_next size given past k = rw add-one (frames_suc size given past k)
+frames_next : (size : ℕ) (available : List ℕ) (past k : ℕ)
+    → frames_in size available past (k + 1) ≡ frames_in size available past k ++ member_of available (in_hand size (mfas_of available) (line_state size (mfas_of available) past) (k + 1))
+frames_next size available past k = rw add-one (frames_suc size available past k)
 
-one_member : (given : List ℕ) (o : Option Lock) → length (member_of given o) ≤ 1
-one_member given None = omega arith
-one_member given (Some member) = omega arith
+one_member : (available : List ℕ) (o : Option Lock) → length (member_of available o) ≤ 1
+one_member available None = omega arith
+one_member available (Some member) = omega arith
 
 -- k pieces come to at most k
-frames_most : (size : ℕ) (given : List ℕ) (past k : ℕ) → length (frames_in size given past k) ≤ k
-frames_most size given past zero = rw (frames_none size given past) (omega arith)
-frames_most size given past (suc k) =
-    let came = member_of given (in_hand size (mfas_of given) (line_state size (mfas_of given) past) (suc k)) in
-    rw (frames_suc size given past k, length-append (frames_in size given past k) came)
-    (omega (arith, frames_most size given past k, one_member given (in_hand size (mfas_of given) (line_state size (mfas_of given) past) (suc k))))
+frames_most : (size : ℕ) (available : List ℕ) (past k : ℕ) → length (frames_in size available past k) ≤ k
+frames_most size available past zero = rw (frames_none size available past) (omega arith)
+frames_most size available past (suc k) =
+    let further = member_of available (in_hand size (mfas_of available) (line_state size (mfas_of available) past) (suc k)) in
+    rw (frames_suc size available past k, length-append (frames_in size available past k) further)
+    (omega (arith, frames_most size available past k, one_member available (in_hand size (mfas_of available) (line_state size (mfas_of available) past) (suc k))))
 
 -- the frame in hand, with the MFAS expected, where the last piece came to one
 abbrev came_to : (has_frame : Bool) → (hand : List ℕ) → (expected : ℕ) → List Taken
 came_to true hand expected = record { frame = hand; expected = expected } ∷ []
 came_to false hand expected = []
 
-hand_is : (given hand : List ℕ) (expected : ℕ) (has_frame : Bool) (o : Option Lock) → has_frame ≡ is_some o → IfSome o (λ m. hand ≡ frame_at given m.frame) → (has_frame ≡ true → IfSome o (λ m. expected ≡ m.expected))
-    → member_of given o ≡ came_to has_frame hand expected
-hand_is given hand expected has_frame None e h k = rw e refl
-hand_is given hand expected has_frame (Some m) e h k = let is : expected ≡ m.expected = k e in rw (e, h, is) refl
+hand_is : (available hand : List ℕ) (expected : ℕ) (has_frame : Bool) (o : Option Lock) → has_frame ≡ is_some o → IfSome o (λ m. hand ≡ frame_at available m.frame) → (has_frame ≡ true → IfSome o (λ m. expected ≡ m.expected))
+    → member_of available o ≡ came_to has_frame hand expected
+hand_is available hand expected has_frame None e h k = rw e refl
+hand_is available hand expected has_frame (Some m) e h k = let is : expected ≡ m.expected = k e in rw (e, h, is) refl
 
 -- ---- the bytes that were taken
 
-abbrev more_of : (a : ℕ) → (came : List ℕ) → InputBytes → InputBytes
-more_of a came taken = record { line = λ b. if b == a then taken.line b ++ came else taken.line b; client = taken.client }
+abbrev more_of : (a : ℕ) → (further : List ℕ) → InputBytes → InputBytes
+more_of a further read = record { line = λ b. if b == a then read.line b ++ further else read.line b; client = read.client }
 
-more_other : (a b : ℕ) (came : List ℕ) (taken : InputBytes) → port.LineIn b ≢ port.LineIn a → (more_of a came taken).line b ≡ taken.line b
-more_other a b came taken differ = elim (eqb_tells b a) [
+more_other : (a b : ℕ) (further : List ℕ) (read : InputBytes) → port.LineIn b ≢ port.LineIn a → (more_of a further read).line b ≡ read.line b
+more_other a b further read differ = elim (eqb_tells b a) [
   | inl t ↦ absurd (differ (ap port.LineIn t.1))
   | inr t ↦ rw t.0 refl
 ]
 
 -- ---- the line
 
-line_at : (plan : Plan) (first : BaysView) (a : ℕ) (taken : InputBytes) (old new : NodeView) (was is : BaysView) → (m : LineInMove a old (line_in_at was a) new (line_in_at is a)) → m.line.pieces ≡ done_at old (port.LineIn a)
-    → (ps : PieceStands (form_in plan a) (line_in_at first a) (line_in_at is a) (taken.line a) old.past m.line m.next) → PortStands plan first (more_of a ps.came taken) new is (port.LineIn a)
-line_at plan first a taken old new was is m counted ps = λ line has used.
+line_at : (plan : Plan) (first : BaysView) (a : ℕ) (read : InputBytes) (old new : NodeView) (was is : BaysView) → (m : LineInMove a old (line_in_at was a) new (line_in_at is a)) → m.line.pieces ≡ done_at old (port.LineIn a)
+    → (ps : PieceStands (form_in plan a) (line_in_at first a) (line_in_at is a) (read.line a) old.past m.line m.next) → PortStands plan first (more_of a ps.further read) new is (port.LineIn a)
+line_at plan first a read old new was is m counted ps = λ line has used.
     let same : line ≡ m.next = one_at new.lines_in a line m.next has m.has in
     let here : (a == a) ≡ true = eq-eqb a a refl in
     let pieces : m.next.pieces ≡ done_at new (port.LineIn a) = omega (arith, m.reads.pieces, done_more (port.LineIn a) old.pieces new.pieces m.piece.counted) in
@@ -131,23 +131,23 @@ few_of : (plan : Plan) (i a number : ℕ) (slots : LineSlots) (x : Connection) (
 few_of plan i a number slots x node p at_i from = ap slots_of (((sound_plan plan p.accepted).entries i x at_i).from_line a number slots from).kind
 
 -- whatever the line may turn out to be
-line_pipes : (plan : Plan) (first : BaysView) (a : ℕ) (taken : InputBytes) (old new : NodeView) (was is : BaysView) → (m : LineInMove a old (line_in_at was a) new (line_in_at is a)) → m.line.pieces ≡ done_at old (port.LineIn a)
-    → (ps : PieceStands (form_in plan a) (line_in_at first a) (line_in_at is a) (taken.line a) old.past m.line m.next) → Step plan first taken (more_of a ps.came taken) (port.LineIn a) old new was is
-    → PipeMoves plan (more_of a ps.came taken) (port.LineIn a) old new
-line_pipes plan first a taken old new was is m counted ps s inputs may i x link next at had has is_of active part stood =
+line_pipes : (plan : Plan) (first : BaysView) (a : ℕ) (read : InputBytes) (old new : NodeView) (was is : BaysView) → (m : LineInMove a old (line_in_at was a) new (line_in_at is a)) → m.line.pieces ≡ done_at old (port.LineIn a)
+    → (ps : PieceStands (form_in plan a) (line_in_at first a) (line_in_at is a) (read.line a) old.past m.line m.next) → Step plan first read (more_of a ps.further read) (port.LineIn a) old new was is
+    → PipeMoves plan (more_of a ps.further read) (port.LineIn a) old new
+line_pipes plan first a read old new was is m counted ps s inputs may i x link next at had has is_of active part stood =
     let p = s.stands.plan_stands in
     let used = ready_used plan old (port.LineIn a) p s.ready in
-    let now : MayBe (form_in plan a).scrambled m.next.reader.ending (taken.line a ++ ps.came) (inputs.line a) = rw (eq-eqb a a refl) at (may.lines a m.next m.has used) in
+    let now : MayBe (form_in plan a).scrambled m.next.reader.ending (read.line a ++ ps.further) (inputs.line a) = rw (eq-eqb a a refl) at (may.lines a m.next m.has used) in
     let line = ps.stands.is_line (inputs.line a) now in
     let size = size_of (form_in plan a) in
     let k = done_at old (port.LineIn a) in
     let pieces : m.next.pieces ≡ k + 1 = omega (arith, m.reads.pieces) in
-    let came = hand_is (inputs.line a) m.next.reader.hand m.reads.expected m.next.has_frame (in_hand size (mfas_of (inputs.line a)) (line_state size (mfas_of (inputs.line a)) old.past) m.next.pieces) line.has_frame line.hand
-    (λ some. m.reads.expects some (line_in_at is a) (form_in plan a) (line_in_at first a) (taken.line a ++ ps.came) old.past ps.stands (inputs.line a) now) in
+    let further = hand_is (inputs.line a) m.next.reader.hand m.reads.expected m.next.has_frame (in_hand size (mfas_of (inputs.line a)) (line_state size (mfas_of (inputs.line a)) old.past) m.next.pieces) line.has_frame line.hand
+    (λ some. m.reads.expects some (line_in_at is a) (form_in plan a) (line_in_at first a) (read.line a ++ ps.further) old.past ps.stands (inputs.line a) now) in
     let frames : frames_in size (inputs.line a) old.past (k + 1) ≡ frames_in size (inputs.line a) old.past k ++ came_to m.next.has_frame m.next.reader.hand m.reads.expected
     = frames_next size (inputs.line a) old.past k
     ∙ ap (λ o. frames_in size (inputs.line a) old.past k ++ member_of (inputs.line a) o) (ap (in_hand size (mfas_of (inputs.line a)) (line_state size (mfas_of (inputs.line a)) old.past)) (sym pieces))
-    ∙ ap (λ came. frames_in size (inputs.line a) old.past k ++ came) came in
+    ∙ ap (λ further. frames_in size (inputs.line a) old.past k ++ further) further in
     let less : (number : ℕ) (slots : LineSlots) → x.from ≡ from_end.Line a number slots → k < slots_of slots.kind
     = λ number slots from. omega (arith, few_of plan i a number slots x old p at from, ready_less plan old (port.LineIn a) p s.ready) in
     let mine : is_from_line a x.from ≡ true = has_part (port.LineIn a) x link old.past is_of part in
@@ -155,7 +155,7 @@ line_pipes plan first a taken old new was is m counted ps s inputs may i x link 
     let after : taken_pieces new x.from ≡ k + 1 = taken_of a new x.from mine ∙ done_more (port.LineIn a) old.pieces new.pieces m.piece.counted in
     let stood_k : PipeStands x (own_input inputs x) (own_turn x old.past) (frames_by plan inputs x.from old.past k) (ended_by x.from k) (given_pieces old x.to) link.pipe = rw before at stood in
     rw after (took_pipe plan inputs (own_input inputs x) x a old.past k (k + 1) (own_turn x old.past) (given_pieces old x.to) (given_pieces new x.to) m.next.reader.hand m.reads.expected m.next.has_frame link next
-    x.from refl mine part less refl (given_in (port.LineIn a) old new refl (done_but plan first taken (more_of a ps.came taken) (port.LineIn a) old new was is s) x.to) frames (m.reads.took.each i link next had has) stood_k)
+    x.from refl mine part less refl (given_in (port.LineIn a) old new refl (done_but plan first read (more_of a ps.further read) (port.LineIn a) old new was is s) x.to) frames (m.reads.took.each i link next had has) stood_k)
   where
     taken_of : (a : ℕ) (node : NodeView) (from : FromEnd) → is_from_line a from ≡ true → taken_pieces node from ≡ done_at node (port.LineIn a)
     taken_of a node (from_end.Line b number slots) mine = let is : b ≡ a = grind (arith, nat_tests) in ap (λ c. done_at node (port.LineIn c)) is
@@ -164,27 +164,27 @@ line_pipes plan first a taken old new was is m counted ps s inputs may i x link 
 
 -- ---- the moment
 
-pub line_in_moves : (plan : Plan) (first : BaysView) (taken : InputBytes) (a : ℕ) (old new : NodeView) (was is : BaysView) → is_ready old (port.LineIn a) ≡ true
-    → LineInMove a old (line_in_at was a) new (line_in_at is a) → OnlyPort (port.LineIn a) was is → StandsAt plan first taken old was → Later plan first taken old new is
-line_in_moves plan first taken a old new was is is_so m only h =
+pub line_in_moves : (plan : Plan) (first : BaysView) (read : InputBytes) (a : ℕ) (old new : NodeView) (was is : BaysView) → is_ready old (port.LineIn a) ≡ true
+    → LineInMove a old (line_in_at was a) new (line_in_at is a) → OnlyPort (port.LineIn a) was is → StandsAt plan first read old was → Later plan first read old new is
+line_in_moves plan first read a old new was is is_so m only h =
     let r = ready old (port.LineIn a) is_so in
     let used = ready_used plan old (port.LineIn a) h.plan_stands r in
-    let stood : LineInAt plan first taken old was a = h.ports (port.LineIn a) in
+    let stood : LineInAt plan first read old was a = h.ports (port.LineIn a) in
     let line = stood m.line m.had used in
-    let ps = m.reads.stands (form_in plan a) (line_in_at first a) (taken.line a) old.past line.0 in
-    let more = more_of a ps.came taken in
-    let s : Step plan first taken more (port.LineIn a) old new was is = record {
+    let ps = m.reads.stands (form_in plan a) (line_in_at first a) (read.line a) old.past line.0 in
+    let more = more_of a ps.further read in
+    let s : Step plan first read more (port.LineIn a) old new was is = record {
       stands = h;
       ready = r;
       piece = m.piece;
       links = links_moved old.past a m.line (line_in_at was a) old.links m.next (line_in_at is a) new.links m.reads;
       only = only;
-      line = λ b differ. more_other a b ps.came taken differ;
+      line = λ b differ. more_other a b ps.further read differ;
       client = λ n differ. refl;
     } in
-    later_by plan first taken more (port.LineIn a) old new was is s
-    (λ inputs may. earlier_by plan first taken more (port.LineIn a) old new was is s inputs may (λ other had u.
+    later_by plan first read more (port.LineIn a) old new was is s
+    (λ inputs may. earlier_by plan first read more (port.LineIn a) old new was is s inputs may (λ other had u.
     let same : other ≡ m.line = one_at old.lines_in a other m.line had m.had in
-    let now : MayBe (form_in plan a).scrambled m.next.reader.ending (taken.line a ++ ps.came) (inputs.line a) = rw (eq-eqb a a refl) at (may.lines a m.next m.has u) in
+    let now : MayBe (form_in plan a).scrambled m.next.reader.ending (read.line a ++ ps.further) (inputs.line a) = rw (eq-eqb a a refl) at (may.lines a m.next m.has u) in
     rw same (ps.earlier (inputs.line a) now)))
-    (line_pipes plan first a taken old new was is m line.1 ps s) (line_at plan first a taken old new was is m line.1 ps)
+    (line_pipes plan first a read old new was is m line.1 ps s) (line_at plan first a read old new was is m line.1 ps)

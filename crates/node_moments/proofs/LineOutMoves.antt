@@ -49,24 +49,24 @@ many_of : (plan : Plan) (i b number : ℕ) (slots : LineSlots) (x : Connection) 
     → slots_of slots.kind ≡ size_of (form_out plan b)
 many_of plan i b number slots x node p at_i to = ap slots_of (((sound_plan plan p.accepted).entries i x at_i).to_line b number slots to).kind
 
-line_pipes : (plan : Plan) (first : BaysView) (b : ℕ) (taken : InputBytes) (old new : NodeView) (was is : BaysView) → LineOutMove b old (line_out_at was b) new (line_out_at is b)
-    → Step plan first taken taken (port.LineOut b) old new was is → PipeMoves plan taken (port.LineOut b) old new
-line_pipes plan first b taken old new was is m s inputs may i x link next at had has is_of active part stood =
+line_pipes : (plan : Plan) (first : BaysView) (b : ℕ) (read : InputBytes) (old new : NodeView) (was is : BaysView) → LineOutMove b old (line_out_at was b) new (line_out_at is b)
+    → Step plan first read read (port.LineOut b) old new was is → PipeMoves plan read (port.LineOut b) old new
+line_pipes plan first b read old new was is m s inputs may i x link next at had has is_of active part stood =
     let p = s.stands.plan_stands in
     let k = taken_pieces old x.from in
     let less : (number : ℕ) (slots : LineSlots) → x.to ≡ to_end.Line b number slots → done_at old (port.LineOut b) < slots_of slots.kind
     = λ number slots to. omega (arith, many_of plan i b number slots x old p at to, ready_less plan old (port.LineOut b) p s.ready) in
     let mine : is_to_line b x.to ≡ true = has_part (port.LineOut b) x link old.past is_of part in
-    rw (taken_out (port.LineOut b) old new refl (done_but plan first taken taken (port.LineOut b) old new was is s) x.from)
+    rw (taken_out (port.LineOut b) old new refl (done_but plan first read read (port.LineOut b) old new was is s) x.from)
     (gave_pipe (own_input inputs x) x b old.past (done_at old (port.LineOut b)) (own_turn x old.past) (frames_by plan inputs x.from old.past k) (ended_by x.from k) old new link next x.to refl mine part less refl
     (done_more (port.LineOut b) old.pieces new.pieces m.piece.counted) (m.writes.gave.each i link next had has) stood)
 
 -- ---- the frame
 
 -- the connections to the line stand at its frame
-filled : (plan : Plan) (inputs : Inputs) (b : ℕ) (taken : InputBytes) (node : NodeView) → PlanStands plan node → PipesStand plan taken node → MayGive plan taken node inputs
+filled : (plan : Plan) (inputs : Inputs) (b : ℕ) (read : InputBytes) (node : NodeView) → PlanStands plan node → PipesStand plan read node → MayGive plan read node inputs
     → FillLine plan inputs b node.past (done_at node (port.LineOut b)) node.links
-filled plan inputs b taken node p h may = record {
+filled plan inputs b read node p h may = record {
   count = p.count;
   of_plan = p.links;
   stand = λ i number slots x link at_i has to active.
@@ -102,29 +102,29 @@ one_more plan inputs b past k puts put less h is = record {
 
 -- ---- the line
 
-line_at : (plan : Plan) (first : BaysView) (b : ℕ) (taken : InputBytes) (old new : NodeView) (was is : BaysView) → (m : LineOutMove b old (line_out_at was b) new (line_out_at is b))
-    → Step plan first taken taken (port.LineOut b) old new was is → ((inputs : Inputs) → MayGive plan taken new inputs → MayGive plan taken old inputs) → LineOutAt plan first taken old was b
-    → PortStands plan first taken new is (port.LineOut b)
-line_at plan first b taken old new was is m s earlier h = λ inputs may line has used.
+line_at : (plan : Plan) (first : BaysView) (b : ℕ) (read : InputBytes) (old new : NodeView) (was is : BaysView) → (m : LineOutMove b old (line_out_at was b) new (line_out_at is b))
+    → Step plan first read read (port.LineOut b) old new was is → ((inputs : Inputs) → MayGive plan read new inputs → MayGive plan read old inputs) → LineOutAt plan first read old was b
+    → PortStands plan first read new is (port.LineOut b)
+line_at plan first b read old new was is m s earlier h = λ inputs may line has used.
     let p = s.stands.plan_stands in
     let before = earlier inputs may in
     let same : line ≡ m.next = one_at new.lines_out b line m.next has m.has in
     let stood = h inputs before m.line m.had used in
     let made = stood.2 in
-    let frame = m.frame plan inputs p.accepted made.is_form (filled plan inputs b taken old p s.stands.pipes before) in
+    let frame = m.frame plan inputs p.accepted made.is_form (filled plan inputs b read old p s.stands.pipes before) in
     let frames = one_more plan inputs b old.past (done_at old (port.LineOut b)) stood.0 m.writes.put (ready_less plan old (port.LineOut b) p s.ready) stood.1 frame in
     rw (same, m.piece.past, done_more (port.LineOut b) old.pieces new.pieces m.piece.counted) (stood.0 ++ m.writes.put ∷ [], frames, m.writes.made (form_out plan b) (line_out_at first b) stood.0 made)
 
 -- ---- the moment
 
-pub line_out_moves : (plan : Plan) (first : BaysView) (taken : InputBytes) (b : ℕ) (old new : NodeView) (was is : BaysView) → is_ready old (port.LineOut b) ≡ true
-    → LineOutMove b old (line_out_at was b) new (line_out_at is b) → OnlyPort (port.LineOut b) was is → StandsAt plan first taken old was → Later plan first taken old new is
-line_out_moves plan first taken b old new was is is_so m only h =
+pub line_out_moves : (plan : Plan) (first : BaysView) (read : InputBytes) (b : ℕ) (old new : NodeView) (was is : BaysView) → is_ready old (port.LineOut b) ≡ true
+    → LineOutMove b old (line_out_at was b) new (line_out_at is b) → OnlyPort (port.LineOut b) was is → StandsAt plan first read old was → Later plan first read old new is
+line_out_moves plan first read b old new was is is_so m only h =
     let links : EachLink (LinkMoved (port.LineOut b) old.past) old.links new.links = record {
       count = m.writes.gave.count;
       each = λ i link next had has. let g = m.writes.gave.each i link next had has in record { same = g.same; other = g.other; taking = λ e. g.taking; giving = λ e. absurd (cc) };
     } in
-    let s : Step plan first taken taken (port.LineOut b) old new was is = record { stands = h; ready = ready old (port.LineOut b) is_so; piece = m.piece; links = links; only = only; line = λ a e. refl; client = λ n e. refl } in
-    let earlier : (inputs : Inputs) → MayGive plan taken new inputs → MayGive plan taken old inputs = λ inputs may. earlier_by plan first taken taken (port.LineOut b) old new was is s inputs may tt in
-    later_by plan first taken taken (port.LineOut b) old new was is s earlier (line_pipes plan first b taken old new was is m s)
-    (line_at plan first b taken old new was is m s earlier (h.ports (port.LineOut b)))
+    let s : Step plan first read read (port.LineOut b) old new was is = record { stands = h; ready = ready old (port.LineOut b) is_so; piece = m.piece; links = links; only = only; line = λ a e. refl; client = λ n e. refl } in
+    let earlier : (inputs : Inputs) → MayGive plan read new inputs → MayGive plan read old inputs = λ inputs may. earlier_by plan first read read (port.LineOut b) old new was is s inputs may tt in
+    later_by plan first read read (port.LineOut b) old new was is s earlier (line_pipes plan first b read old new was is m s)
+    (line_at plan first b read old new was is m s earlier (h.ports (port.LineOut b)))

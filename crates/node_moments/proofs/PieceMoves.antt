@@ -29,39 +29,39 @@ use Rattle.node_moments.proofs.Parts.{none_and, off_stopped, each_goes, link_bef
 use Rattle.node_moments.proofs.Retired.{known_at}
 
 -- a piece of a port of a node that stands at a moment of a plan: no byte was taken of another port
-pub record Step (plan : Plan) (first : BaysView) (taken more : InputBytes) (name : PortName) (old new : NodeView) (was is : BaysView) : Type 0 where
-  pub stands : StandsAt plan first taken old was
+pub record Step (plan : Plan) (first : BaysView) (read more : InputBytes) (name : PortName) (old new : NodeView) (was is : BaysView) : Type 0 where
+  pub stands : StandsAt plan first read old was
   pub ready : IsReady old name
   pub piece : OnePiece name old new
   pub links : EachLink (LinkMoved name old.past) old.links new.links
   pub only : OnlyPort name was is
-  pub line : (a : ℕ) → port.LineIn a ≢ name → more.line a ≡ taken.line a
-  pub client : (n : ℕ) → port.ClientIn n ≢ name → more.client n ≡ taken.client n
+  pub line : (a : ℕ) → port.LineIn a ≢ name → more.line a ≡ read.line a
+  pub client : (n : ℕ) → port.ClientIn n ≢ name → more.client n ≡ read.client n
 
-pub done_but : (plan : Plan) (first : BaysView) (taken more : InputBytes) (name : PortName) (old new : NodeView) (was is : BaysView) → Step plan first taken more name old new was is
+pub done_but : (plan : Plan) (first : BaysView) (read more : InputBytes) (name : PortName) (old new : NodeView) (was is : BaysView) → Step plan first read more name old new was is
     → (other : PortName) → other ≢ name → done_at new other ≡ done_at old other
-done_but plan first taken more name old new was is s other differ = done_same name old.pieces new.pieces other s.piece.counted s.ready.within differ
+done_but plan first read more name old new was is s other differ = done_same name old.pieces new.pieces other s.piece.counted s.ready.within differ
 
 -- ---- what the inputs may be
 
 -- the input of a port
 abbrev pub MayAt : Plan → InputBytes → NodeView → Inputs → PortName → Type 0
-MayAt plan taken node inputs (port.LineIn a) = (line : LineView) → HasLineIn node a line → uses plan (port.LineIn a) ≡ true → MayBe (form_in plan a).scrambled line.reader.ending (taken.line a) (inputs.line a)
-MayAt plan taken node inputs (port.LineOut b) = ⊤
-MayAt plan taken node inputs (port.ClientIn n) = (i : ℕ) (x : Connection) (link : Link) → slice_get plan.connections i ≡ Some x → HasLink node i link → x.from ≡ from_end.Client n → x.start ≤ node.past + 1
-    → MayShow link.pipe.taking (taken.client n) (of_client (inputs.client n))
-MayAt plan taken node inputs (port.ClientOut n) = ⊤
+MayAt plan read node inputs (port.LineIn a) = (line : LineView) → HasLineIn node a line → uses plan (port.LineIn a) ≡ true → MayBe (form_in plan a).scrambled line.reader.ending (read.line a) (inputs.line a)
+MayAt plan read node inputs (port.LineOut b) = ⊤
+MayAt plan read node inputs (port.ClientIn n) = (i : ℕ) (x : Connection) (link : Link) → slice_get plan.connections i ≡ Some x → HasLink node i link → x.from ≡ from_end.Client n → x.start ≤ node.past + 1
+    → MayShow link.pipe.taking (read.client n) (of_client (inputs.client n))
+MayAt plan read node inputs (port.ClientOut n) = ⊤
 
 -- what they may turn out to be from next on they might be before
-pub earlier_by : (plan : Plan) (first : BaysView) (taken more : InputBytes) (name : PortName) (old new : NodeView) (was is : BaysView) → Step plan first taken more name old new was is
-    → (inputs : Inputs) → MayGive plan more new inputs → MayAt plan taken old inputs name → MayGive plan taken old inputs
-earlier_by plan first taken more name old new was is s inputs may mine = record {
+pub earlier_by : (plan : Plan) (first : BaysView) (read more : InputBytes) (name : PortName) (old new : NodeView) (was is : BaysView) → Step plan first read more name old new was is
+    → (inputs : Inputs) → MayGive plan more new inputs → MayAt plan read old inputs name → MayGive plan read old inputs
+earlier_by plan first read more name old new was is s inputs may mine = record {
   lines = λ a line had used. elim (same_port name (port.LineIn a) s.ready.within) [
-    | inl e ↦ let here : MayAt plan taken old inputs (port.LineIn a) = subst (λ p. MayAt plan taken old inputs p) (sym e) mine in here line had used
+    | inl e ↦ let here : MayAt plan read old inputs (port.LineIn a) = subst (λ p. MayAt plan read old inputs p) (sym e) mine in here line had used
     | inr d ↦ rw (s.line a d) at (may.lines a line (s.piece.lines_in a d ∙ had) used)
   ];
   clients = λ i n x link at had from start. elim (same_port name (port.ClientIn n) s.ready.within) [
-    | inl e ↦ let here : MayAt plan taken old inputs (port.ClientIn n) = subst (λ p. MayAt plan taken old inputs p) (sym e) mine in here i x link at had from start
+    | inl e ↦ let here : MayAt plan read old inputs (port.ClientIn n) = subst (λ p. MayAt plan read old inputs p) (sym e) mine in here i x link at had from start
     | inr d ↦
         let a = link_after (LinkMoved name old.past) old.links new.links i link s.links had in
         let kept = taking_kept name old.past n link a.new a.goes (from_as x link (s.stands.plan_stands.links i x link at had) ∙ from) d in
@@ -100,15 +100,15 @@ pipe_next plan inputs name old new x link next same past is active m h false e o
     let gives : given_pieces new x.to ≡ given_pieces old x.to = given_other name old new same x off x.to refl in
     rw (takes, gives, past, m.other e) h
 
-pub pipes_by : (plan : Plan) (first : BaysView) (taken more : InputBytes) (name : PortName) (old new : NodeView) (was is : BaysView) → Step plan first taken more name old new was is
-    → ((inputs : Inputs) → MayGive plan more new inputs → MayGive plan taken old inputs) → PipeMoves plan more name old new → PipesStand plan more new
-pipes_by plan first taken more name old new was is s earlier moves = record {
+pub pipes_by : (plan : Plan) (first : BaysView) (read more : InputBytes) (name : PortName) (old new : NodeView) (was is : BaysView) → Step plan first read more name old new was is
+    → ((inputs : Inputs) → MayGive plan more new inputs → MayGive plan read old inputs) → PipeMoves plan more name old new → PipesStand plan more new
+pipes_by plan first read more name old new was is s earlier moves = record {
   each = λ inputs may i x next at has on.
       let b = link_before (LinkMoved name old.past) old.links new.links i next s.links has in
       let is_of = s.stands.plan_stands.links i x b.old at b.known in
       let active : IsActive x old.past = rw s.piece.past at on in
       let stood : PipeAt plan inputs old x b.old = s.stands.pipes.each inputs (earlier inputs may) i x b.old at b.known active in
-      pipe_next plan inputs name old new x b.old next (done_but plan first taken more name old new was is s) s.piece.past is_of active b.goes stood (takes_part old.past name b.old) refl
+      pipe_next plan inputs name old new x b.old next (done_but plan first read more name old new was is s) s.piece.past is_of active b.goes stood (takes_part old.past name b.old) refl
       (λ part. moves inputs may i x b.old next at b.known has is_of active part stood);
   last = λ inputs may i x next at has stop.
       let b = link_before (LinkMoved name old.past) old.links new.links i next s.links has in
@@ -121,12 +121,12 @@ pipes_by plan first taken more name old new was is s earlier moves = record {
 -- ---- the other ports
 
 -- a client whose connection has done as many turns as before, and whose part in it stands as before
-pub client_kept : {P : Type 0} (plan : Plan) (name : PortName) (old new : NodeView) (first was is : P) (empties : Bool → P → P) (Part Then : Connection → Link → P → ℕ → Type 0) (taken more : List ℕ)
-    → length new.links ≡ length old.links → new.past ≡ old.past → is ≡ was → more ≡ taken
+pub client_kept : {P : Type 0} (plan : Plan) (name : PortName) (old new : NodeView) (first was is : P) (empties : Bool → P → P) (Part Then : Connection → Link → P → ℕ → Type 0) (read more : List ℕ)
+    → length new.links ≡ length old.links → new.past ≡ old.past → is ≡ was → more ≡ read
     → ((i : ℕ) (x : Connection) (link : Link) → slice_get plan.connections i ≡ Some x → HasLink old i link → touches name x ≡ true → turns_done x old.past (done_at new name) ≡ turns_done x old.past (done_at old name))
     → ((i : ℕ) (x : Connection) (link next : Link) → slice_get plan.connections i ≡ Some x → HasLink old i link → HasLink new i next → touches name x ≡ true → (v : P) (k : ℕ) → Part x link v k → Then x next v k)
-    → ClientStands plan old name first was empties Part taken → ClientStands plan new name first is empties Then more
-client_kept plan name old new first was is empties Part Then taken more links past place none turns part h = record {
+    → ClientStands plan old name first was empties Part read → ClientStands plan new name first is empties Then more
+client_kept plan name old new first was is empties Part Then read more links past place none turns part h = record {
   started = λ i x next at has touched start.
       let link = known_at new.links old.links i next links has in
       let c = h.started i x link.0 at link.1 touched (rw past at start) in
@@ -139,25 +139,25 @@ client_kept plan name old new first was is empties Part Then taken more links pa
   waits = λ i x at touched late. let w = h.waits i x at touched (rw past at late) in (place ∙ w.0, none ∙ w.1);
 }
 
-port_kept : (plan : Plan) (first : BaysView) (taken more : InputBytes) (name : PortName) (old new : NodeView) (was is : BaysView) → Step plan first taken more name old new was is
-    → ((inputs : Inputs) → MayGive plan more new inputs → MayGive plan taken old inputs) → (other : PortName) → other ≢ name → PortStands plan first taken old was other → PortStands plan first more new is other
-port_kept plan first taken more name old new was is s earlier (port.LineIn a) differ h = λ line has used.
+port_kept : (plan : Plan) (first : BaysView) (read more : InputBytes) (name : PortName) (old new : NodeView) (was is : BaysView) → Step plan first read more name old new was is
+    → ((inputs : Inputs) → MayGive plan more new inputs → MayGive plan read old inputs) → (other : PortName) → other ≢ name → PortStands plan first read old was other → PortStands plan first more new is other
+port_kept plan first read more name old new was is s earlier (port.LineIn a) differ h = λ line has used.
     let place : line_in_at is a ≡ line_in_at was a = ap input_of (s.only.others (port.LineIn a) differ) in
-    rw (place, s.line a differ, done_but plan first taken more name old new was is s (port.LineIn a) differ, s.piece.past) (h line (sym (s.piece.lines_in a differ) ∙ has) used)
-port_kept plan first taken more name old new was is s earlier (port.LineOut b) differ h = λ inputs may line has used.
+    rw (place, s.line a differ, done_but plan first read more name old new was is s (port.LineIn a) differ, s.piece.past) (h line (sym (s.piece.lines_in a differ) ∙ has) used)
+port_kept plan first read more name old new was is s earlier (port.LineOut b) differ h = λ inputs may line has used.
     let place : line_out_at is b ≡ line_out_at was b = ap output_of (s.only.others (port.LineOut b) differ) in
-    rw (s.piece.past, done_but plan first taken more name old new was is s (port.LineOut b) differ, place) (h inputs (earlier inputs may) line (sym (s.piece.lines_out b differ) ∙ has) used)
-port_kept plan first taken more name old new was is s earlier (port.ClientIn n) differ h =
-    client_kept plan (port.ClientIn n) old new (client_in_at first n) (client_in_at was n) (client_in_at is n) after_retire (GivesText first taken n) (GivesText first more n) (taken.client n) (more.client n)
+    rw (s.piece.past, done_but plan first read more name old new was is s (port.LineOut b) differ, place) (h inputs (earlier inputs may) line (sym (s.piece.lines_out b differ) ∙ has) used)
+port_kept plan first read more name old new was is s earlier (port.ClientIn n) differ h =
+    client_kept plan (port.ClientIn n) old new (client_in_at first n) (client_in_at was n) (client_in_at is n) after_retire (GivesText first read n) (GivesText first more n) (read.client n) (more.client n)
     s.links.count s.piece.past (ap input_of (s.only.others (port.ClientIn n) differ)) (s.client n differ)
-    (λ i x link at had touched. ap (turns_done x old.past) (done_but plan first taken more name old new was is s (port.ClientIn n) differ))
+    (λ i x link at had touched. ap (turns_done x old.past) (done_but plan first read more name old new was is s (port.ClientIn n) differ))
     (λ i x link next at had has touched v k stood.
     let kept = taking_kept name old.past n link next (s.links.each i link next had has) (from_as x link (s.stands.plan_stands.links i x link at had) ∙ from_client n x.from touched) differ in
     rw (s.client n differ, kept) stood) h
-port_kept plan first taken more name old new was is s earlier (port.ClientOut n) differ h =
-    client_kept plan (port.ClientOut n) old new (client_out_at first n) (client_out_at was n) (client_out_at is n) out_after_retire (GetsText plan first taken old n) (GetsText plan first more new n) [] []
+port_kept plan first read more name old new was is s earlier (port.ClientOut n) differ h =
+    client_kept plan (port.ClientOut n) old new (client_out_at first n) (client_out_at was n) (client_out_at is n) out_after_retire (GetsText plan first read old n) (GetsText plan first more new n) [] []
     s.links.count s.piece.past (ap output_of (s.only.others (port.ClientOut n) differ)) refl
-    (λ i x link at had touched. ap (turns_done x old.past) (done_but plan first taken more name old new was is s (port.ClientOut n) differ))
+    (λ i x link at had touched. ap (turns_done x old.past) (done_but plan first read more name old new was is s (port.ClientOut n) differ))
     (λ i x link next at had has touched v k stood. λ inputs may.
     let kept = giving_kept name old.past n link next (s.links.each i link next had has) (to_as x link (s.stands.plan_stands.links i x link at had) ∙ to_client n x.to touched) differ in
     rw kept (stood inputs (earlier inputs may))) h
@@ -165,18 +165,18 @@ port_kept plan first taken more name old new was is s earlier (port.ClientOut n)
 -- ---- the moment
 
 -- with what it does to its own port
-pub later_by : (plan : Plan) (first : BaysView) (taken more : InputBytes) (name : PortName) (old new : NodeView) (was is : BaysView) → Step plan first taken more name old new was is
-    → ((inputs : Inputs) → MayGive plan more new inputs → MayGive plan taken old inputs) → PipeMoves plan more name old new → PortStands plan first more new is name → Later plan first taken old new is
-later_by plan first taken more name old new was is s earlier moves mine =
+pub later_by : (plan : Plan) (first : BaysView) (read more : InputBytes) (name : PortName) (old new : NodeView) (was is : BaysView) → Step plan first read more name old new was is
+    → ((inputs : Inputs) → MayGive plan more new inputs → MayGive plan read old inputs) → PipeMoves plan more name old new → PortStands plan first more new is name → Later plan first read old new is
+later_by plan first read more name old new was is s earlier moves mine =
     let p = s.stands.plan_stands in
     record {
       more = more;
       stands = record {
         plan_stands = plan_counted plan name old new s.ready s.piece.counted s.piece.turns s.piece.past (each_goes (LinkMoved name old.past) SameEntry old.links new.links (λ link next m. m.same) s.links) p;
-        pipes = pipes_by plan first taken more name old new was is s earlier moves;
+        pipes = pipes_by plan first read more name old new was is s earlier moves;
         ports = λ other. elim (same_port name other s.ready.within) [
           | inl e ↦ subst (λ p. PortStands plan first more new is p) (sym e) mine
-          | inr d ↦ port_kept plan first taken more name old new was is s earlier other d (s.stands.ports other)
+          | inr d ↦ port_kept plan first read more name old new was is s earlier other d (s.stands.ports other)
         ];
         idle = λ other unused. elim (same_port name other s.ready.within) [
           | inl e ↦ absurd (cc (ready_used plan old name p s.ready, ap (uses plan) e, unused))

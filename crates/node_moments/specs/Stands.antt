@@ -35,12 +35,12 @@ pub record InputBytes : Type 0 where
 
 -- What the inputs of a node, of which these bytes were taken, may turn out to be, each for itself. A client whose
 -- connection has not started may turn out to be anything.
-pub record MayGive (plan : Plan) (taken : InputBytes) (node : NodeView) (inputs : Inputs) : Type 0 where
+pub record MayGive (plan : Plan) (read : InputBytes) (node : NodeView) (inputs : Inputs) : Type 0 where
   pub lines : (a : ℕ) (line : LineView) → HasLineIn node a line → uses plan (port.LineIn a) ≡ true
-      → MayBe (form_in plan a).scrambled line.reader.ending (taken.line a) (inputs.line a)
+      → MayBe (form_in plan a).scrambled line.reader.ending (read.line a) (inputs.line a)
   pub clients : (i n : ℕ) (x : Connection) (link : Link) → slice_get plan.connections i ≡ Some x → HasLink node i link
       → x.from ≡ from_end.Client n → x.start ≤ node.past + 1
-      → MayShow link.pipe.taking (taken.client n) (of_client (inputs.client n))
+      → MayShow link.pipe.taking (read.client n) (of_client (inputs.client n))
 
 -- ---- the pieces of a line
 
@@ -71,14 +71,14 @@ pub record PlanStands (plan : Plan) (node : NodeView) : Type 0 where
 
 -- Each active connection stands where its own entry and its own input have it. So does each whose last turn is the last
 -- that is done: all of its turns are done.
-pub record PipesStand (plan : Plan) (taken : InputBytes) (node : NodeView) : Type 0 where
-  pub each : (inputs : Inputs) → MayGive plan taken node inputs → (i : ℕ) (x : Connection) (link : Link)
+pub record PipesStand (plan : Plan) (read : InputBytes) (node : NodeView) : Type 0 where
+  pub each : (inputs : Inputs) → MayGive plan read node inputs → (i : ℕ) (x : Connection) (link : Link)
       → slice_get plan.connections i ≡ Some x → HasLink node i link → IsActive x node.past
       → PipeStands x (own_input inputs x) (own_turn x node.past)
       (frames_by plan inputs x.from node.past (taken_pieces node x.from))
       (ended_by x.from (taken_pieces node x.from))
       (given_pieces node x.to) link.pipe
-  pub last : (inputs : Inputs) → MayGive plan taken node inputs → (i : ℕ) (x : Connection) (link : Link)
+  pub last : (inputs : Inputs) → MayGive plan read node inputs → (i : ℕ) (x : Connection) (link : Link)
       → slice_get plan.connections i ≡ Some x → HasLink node i link
       → x.stop ≡ node.past → PipeStands x (own_input inputs x) (own_turn x node.past) [] false 0 link.pipe
 
@@ -86,13 +86,13 @@ pub record PipesStand (plan : Plan) (taken : InputBytes) (node : NodeView) : Typ
 
 -- an input line that is used has given what its pieces want, and was asked nothing more
 abbrev pub LineInAt : Plan → (first : BaysView) → InputBytes → NodeView → (now : BaysView) → (a : ℕ) → Type 0
-LineInAt plan first taken node now a = (line : LineView) → HasLineIn node a line → uses plan (port.LineIn a) ≡ true
-    → LineStands (form_in plan a) (line_in_at first a) (line_in_at now a) (taken.line a) node.past line
+LineInAt plan first read node now a = (line : LineView) → HasLineIn node a line → uses plan (port.LineIn a) ≡ true
+    → LineStands (form_in plan a) (line_in_at first a) (line_in_at now a) (read.line a) node.past line
     × (line.pieces ≡ done_at node (port.LineIn a))
 
 -- of an output line that is used the first so many frames were made, and were due to its place
 abbrev pub LineOutAt : Plan → (first : BaysView) → InputBytes → NodeView → (now : BaysView) → (b : ℕ) → Type 0
-LineOutAt plan first taken node now b = (inputs : Inputs) → MayGive plan taken node inputs → (line : LineOutView)
+LineOutAt plan first read node now b = (inputs : Inputs) → MayGive plan read node inputs → (line : LineOutView)
     → HasLineOut node b line → uses plan (port.LineOut b) ≡ true
     → (puts : List FramePut) × AreFramesOf plan inputs b
     (size_of (form_out plan b) * node.past + done_at node (port.LineOut b)) puts
@@ -109,50 +109,50 @@ pub record ClientAt {P : Type 0} (empties : Bool → P → P) (Part : P → ℕ 
 -- of the connection at a client's port: as above once it has started; until then the place is as it was first, and
 -- nothing was taken of it
 pub record ClientStands {P : Type 0} (plan : Plan) (node : NodeView) (name : PortName) (first now : P)
-    (empties : Bool → P → P) (Part : Connection → Link → P → ℕ → Type 0) (taken : List ℕ) : Type 0 where
+    (empties : Bool → P → P) (Part : Connection → Link → P → ℕ → Type 0) (read : List ℕ) : Type 0 where
   pub started : (i : ℕ) (x : Connection) (link : Link) → slice_get plan.connections i ≡ Some x → HasLink node i link
       → touches name x ≡ true → x.start ≤ node.past + 1
       → ClientAt empties (Part x link) now x node.past (done_at node name)
   pub waits : (i : ℕ) (x : Connection) → slice_get plan.connections i ≡ Some x → touches name x ≡ true
       → node.past + 1 < x.start
-      → (now ≡ first) × (taken ≡ [])
+      → (now ≡ first) × (read ≡ [])
 
 -- a client input has given what so many turns want
 abbrev pub GivesText : (first : BaysView) → InputBytes → (n : ℕ) → Connection → Link → InView → ℕ → Type 0
-GivesText first taken n x link was k = ClientInStands x (client_in_at first n) was (taken.client n) k link.pipe.taking
+GivesText first read n x link was k = ClientInStands x (client_in_at first n) was (read.client n) k link.pipe.taking
 
 -- what arrived at a client output in so many turns was due to its place as text, whatever the inputs may turn out to be
 abbrev pub GetsText : Plan → (first : BaysView) → InputBytes → NodeView → (n : ℕ) → Connection → Link → OutView → ℕ
     → Type 0
-GetsText plan first taken node n x link was k = (inputs : Inputs) → MayGive plan taken node inputs
+GetsText plan first read node n x link was k = (inputs : Inputs) → MayGive plan read node inputs
     → ClientOutStands x (own_input inputs x) (client_out_at first n) was k link.pipe.giving
 
 -- a port of each kind
 abbrev pub PortStands : Plan → (first : BaysView) → InputBytes → NodeView → (now : BaysView) → PortName → Type 0
-PortStands plan first taken node now (port.LineIn a) = LineInAt plan first taken node now a
-PortStands plan first taken node now (port.LineOut b) = LineOutAt plan first taken node now b
-PortStands plan first taken node now (port.ClientIn n) = ClientStands plan node (port.ClientIn n) (client_in_at first n)
-    (client_in_at now n) after_retire (GivesText first taken n) (taken.client n)
-PortStands plan first taken node now (port.ClientOut n) = ClientStands plan node (port.ClientOut n)
-    (client_out_at first n) (client_out_at now n) out_after_retire (GetsText plan first taken node n) []
+PortStands plan first read node now (port.LineIn a) = LineInAt plan first read node now a
+PortStands plan first read node now (port.LineOut b) = LineOutAt plan first read node now b
+PortStands plan first read node now (port.ClientIn n) = ClientStands plan node (port.ClientIn n) (client_in_at first n)
+    (client_in_at now n) after_retire (GivesText first read n) (read.client n)
+PortStands plan first read node now (port.ClientOut n) = ClientStands plan node (port.ClientOut n)
+    (client_out_at first n) (client_out_at now n) out_after_retire (GetsText plan first read node n) []
 
 -- The node and its bays stand at a moment of the plan: in turn node.past + 1, after so many pieces of each port. The
 -- bays were first so, and these bytes were taken of the inputs since. The place of a port that is not used is as it was
 -- first.
-pub record StandsAt (plan : Plan) (first : BaysView) (taken : InputBytes) (node : NodeView)
+pub record StandsAt (plan : Plan) (first : BaysView) (read : InputBytes) (node : NodeView)
     (now : BaysView) : Type 0 where
   pub plan_stands : PlanStands plan node
-  pub pipes : PipesStand plan taken node
-  pub ports : (name : PortName) → PortStands plan first taken node now name
+  pub pipes : PipesStand plan read node
+  pub ports : (name : PortName) → PortStands plan first read node now name
   pub idle : (name : PortName) → uses plan name ≡ false → place_at now name ≡ place_at first name
 
 -- From a moment on to one of the same plan, of whose inputs `more` are all bytes taken by then; which moment, the other
 -- clauses say: what the inputs may turn out to be from then on they might be before.
-pub record Later (plan : Plan) (first : BaysView) (taken : InputBytes) (old new : NodeView)
+pub record Later (plan : Plan) (first : BaysView) (read : InputBytes) (old new : NodeView)
     (now : BaysView) : Type 0 where
   pub more : InputBytes
   pub stands : StandsAt plan first more new now
-  pub earlier : (inputs : Inputs) → MayGive plan more new inputs → MayGive plan taken old inputs
+  pub earlier : (inputs : Inputs) → MayGive plan more new inputs → MayGive plan read old inputs
 
 -- nothing was taken
 abbrev pub no_bytes : InputBytes

@@ -88,7 +88,7 @@ makes_frame first was now read emitted added lines next old new none size step f
     let g = step first read h.payload h.packets h.text h.framed.stream in
     let f = frame (client_frames old.sapi h.count h.payload) h.framed.path in
     record {
-      more_read = g.goes.more_read;
+      further = g.goes.further;
       stands = record {
         packets = h.packets ++ g.goes.more;
         payload = h.payload ++ added;
@@ -104,7 +104,7 @@ makes_frame first was now read emitted added lines next old new none size step f
 -- no frame is to be made
 pub makes_none : (first now : InView) (read emitted : List ℕ) (lines : LinesView) (f : FramerState) → FramedSome first now read emitted lines f → Makes first now read emitted lines lines f f
 makes_none first now read emitted lines f h = record {
-  more_read = [];
+  further = [];
   stands = rw (append-nil read) h;
   earlier = λ text may. rw (append-nil read) at may;
   sapi = refl;
@@ -143,13 +143,13 @@ gives_framed first now read emitted bytes lines old new g h =
 pub makes_then : (first now later : InView) (read emitted done bytes : List ℕ) (a b c : LinesView) (was mid ready is : FramerState) → Makes first now read (emitted ++ done) a b was mid
     → ((tk gn : List ℕ) → FramedSome first now tk gn b mid → Makes first later tk gn b c mid ready) → Gives bytes ready is → Makes first later read (emitted ++ (done ++ bytes)) a c was is
 makes_then first now later read emitted done bytes a b c was mid ready is m step g =
-    let n = step (read ++ m.more_read) (emitted ++ done) m.stands in
+    let n = step (read ++ m.further) (emitted ++ done) m.stands in
     let emitted_is : (emitted ++ done) ++ bytes ≡ emitted ++ (done ++ bytes) = append_assoc emitted done bytes in
-    let read_is : (read ++ m.more_read) ++ n.more_read ≡ read ++ (m.more_read ++ n.more_read) = append_assoc read m.more_read n.more_read in
+    let read_is : (read ++ m.further) ++ n.further ≡ read ++ (m.further ++ n.further) = append_assoc read m.further n.further in
     record {
-      more_read = m.more_read ++ n.more_read;
+      further = m.further ++ n.further;
       stands = (let P : List ℕ → List ℕ → Type 0 = λ t g. FramedSome first later t g c is in
-          subst (P (read ++ (m.more_read ++ n.more_read))) emitted_is (subst (λ t. P t ((emitted ++ done) ++ bytes)) read_is (gives_framed first later ((read ++ m.more_read) ++ n.more_read) (emitted ++ done) bytes c ready is g n.stands)));
+          subst (P (read ++ (m.further ++ n.further))) emitted_is (subst (λ t. P t ((emitted ++ done) ++ bytes)) read_is (gives_framed first later ((read ++ m.further) ++ n.further) (emitted ++ done) bytes c ready is g n.stands)));
       earlier = λ text may. m.earlier text (n.earlier text (rw (sym read_is) at may));
       sapi = ap (λ f. f.sapi) g.same ∙ n.sapi ∙ m.sapi;
       fcs = ap (λ f. f.stream.fcs) g.same ∙ n.fcs ∙ m.fcs;

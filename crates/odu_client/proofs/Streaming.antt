@@ -59,7 +59,7 @@ ready_from packets emitted s some h = record {
 -- the text did not go on
 pub stays : (first now : InView) (read : List ℕ) (packets : List (List ℕ)) (lines : LinesView) (s : StreamState) → TextStands first now read packets lines s → TextGoes first now read packets lines lines s.fcs s
 stays first now read packets lines s h = record {
-  more_read = [];
+  further = [];
   more = [];
   text = rw (append-nil read, append-nil packets) h;
   earlier = λ text may. rw (append-nil read) at may;
@@ -106,9 +106,9 @@ asked_text first was now read packets more lines next old new going stands answe
     let t = stands h.stands in
     let was_going : lines.answer ≡ line.Packet = sym h.answer ∙ going in
     let e : more_of lines next ≡ more = ap (λ a. if is_packet a then given_by next.answer next.packet else []) was_going ∙ is in
-    let P : List (List ℕ) → Type 0 = λ ps. LinesStand first now (read ++ t.came) (packets ++ ps) next in
+    let P : List (List ℕ) → Type 0 = λ ps. LinesStand first now (read ++ t.further) (packets ++ ps) next in
     record {
-      more_read = t.came;
+      further = t.further;
       more = more;
       text = record { stands = subst P e t.stands; answer = sym answer };
       earlier = t.earlier;
@@ -182,12 +182,12 @@ emitted_made packets emitted bytes k old new some fcs answer same none h made =
 
 -- a step after others
 pub goes_then : (first now later : InView) (read emitted : List ℕ) (packets : List (List ℕ)) (a b c : LinesView) (fcs : Bool) (s t : StreamState) → (g : TextGoes first now read packets a b fcs s)
-    → TextGoes first later (read ++ g.more_read) (packets ++ g.more) b c s.fcs t → TextGoes first later read packets a c fcs t
+    → TextGoes first later (read ++ g.further) (packets ++ g.more) b c s.fcs t → TextGoes first later read packets a c fcs t
 goes_then first now later read emitted packets a b c fcs s t g h = record {
-  more_read = g.more_read ++ h.more_read;
+  further = g.further ++ h.further;
   more = g.more ++ h.more;
-  text = rw (sym (append_assoc read g.more_read h.more_read), sym (append_assoc packets g.more h.more)) h.text;
-  earlier = λ text may. g.earlier text (h.earlier text (rw (sym (append_assoc read g.more_read h.more_read)) at may));
+  text = rw (sym (append_assoc read g.further h.further), sym (append_assoc packets g.more h.more)) h.text;
+  earlier = λ text may. g.earlier text (h.earlier text (rw (sym (append_assoc read g.further h.further)) at may));
   still = λ other.
       let one = g.still other in
       let two = h.still (λ e. other (ap (λ v. v.answer) (sym one.1) ∙ e)) in
@@ -220,7 +220,7 @@ ready_streams was now bytes lines next old mid new same answer made ready = λ f
     let r = ready first read emitted packets t h in
     record {
       goes = record {
-        more_read = r.goes.more_read;
+        further = r.goes.further;
         more = r.goes.more;
         text = record { stands = r.goes.text.stands; answer = answer ∙ r.goes.text.answer };
         earlier = r.goes.earlier;
@@ -243,7 +243,7 @@ pub streams_both : (was mid now : InView) (x y : List ℕ) (a b c : LinesView) (
 unfolding goes_then
 streams_both was mid now x y a b c s t u one two = λ first read emitted packets text made.
     let g = one first read emitted packets text made in
-    let n = two first (read ++ g.goes.more_read) (emitted ++ x) (packets ++ g.goes.more) g.goes.text g.made in
+    let n = two first (read ++ g.goes.further) (emitted ++ x) (packets ++ g.goes.more) g.goes.text g.made in
     record {
       goes = goes_then first mid now read emitted packets a b c s.fcs t u g.goes n.goes;
       made = (let P : List (List ℕ) → List ℕ → Type 0 = λ ps bytes. StreamMade ps bytes u in

@@ -192,7 +192,7 @@ asked_are first now read emitted lines f text h may = by_answer (is_packet_answe
 pub read_as_asked : (first now : InView) (read emitted : List ℕ) (lines : LinesView) (f : FramerState) (text : List ℕ) → ClientStands first now read emitted lines f → MayBe lines read text
     → ReadAsNeeded (came_short lines.ended lines.answer) (packets_asked (packets_of text).packets f.stream.fcs (length emitted)) read
 read_as_asked first now read emitted lines f text h may =
-    subst (λ n. ReadAsNeeded (came_short lines.ended lines.answer) n read) (asked_are first now read emitted lines f text h may) h.text.stands.read
+    subst (λ n. ReadAsNeeded (came_short lines.ended lines.answer) n read) (asked_are first now read emitted lines f text h may) h.text.stands.needed
 
 -- ---- the frame in which the end is seen
 
@@ -323,12 +323,12 @@ makes_start first now read emitted lines f h =
 
 pub fills_from : (first now : InView) (read emitted bytes : List ℕ) (a c : LinesView) (was is : FramerState) → length is.left < 15296 → Makes first now read (emitted ++ bytes) a c was is → Fills first now read emitted bytes a c was is
 fills_from first now read emitted bytes a c was is short m =
-    let stands = stands_from first now (read ++ m.more_read) (emitted ++ bytes) c is short m.stands in
+    let stands = stands_from first now (read ++ m.further) (emitted ++ bytes) c is short m.stands in
     record {
-      more_read = m.more_read;
+      further = m.further;
       stands = stands;
       earlier = m.earlier;
-      emitted = λ text may. part_is_stream first now (read ++ m.more_read) emitted bytes c is text stands may
+      emitted = λ text may. part_is_stream first now (read ++ m.further) emitted bytes c is text stands may
           ∙ ap (λ s. stream_part s (packets_of text).packets is.stream.fcs (length emitted) (length bytes)) m.sapi
           ∙ ap (λ b. stream_part was.sapi (packets_of text).packets b (length emitted) (length bytes)) m.fcs;
       sapi = m.sapi;

@@ -75,10 +75,10 @@ pub record ClientStands (first now : InView) (read emitted : List ℕ) (lines : 
 -- then on it might have before. They are the next bytes of the client's stream, whatever text it is.
 pub record Fills (first now : InView) (read before bytes : List ℕ) (old new : LinesView)
     (was is : FramerState) : Type 0 where
-  pub more_read : List ℕ
-  pub stands : ClientStands first now (read ++ more_read) (before ++ bytes) new is
-  pub earlier : (text : List ℕ) → MayBe new (read ++ more_read) text → MayBe old read text
-  pub emitted : (text : List ℕ) → MayBe new (read ++ more_read) text
+  pub further : List ℕ
+  pub stands : ClientStands first now (read ++ further) (before ++ bytes) new is
+  pub earlier : (text : List ℕ) → MayBe new (read ++ further) text → MayBe old read text
+  pub emitted : (text : List ℕ) → MayBe new (read ++ further) text
       → bytes ≡ stream_part was.sapi (packets_of text).packets was.stream.fcs (length before) (length bytes)
   pub sapi : is.sapi ≡ was.sapi
   pub fcs : is.stream.fcs ≡ was.stream.fcs

@@ -174,8 +174,8 @@ dead_before : (retires : Bool) (was last : InView) → last ≡ after_retire ret
 dead_before false was last place dead = place
 dead_before true was last place dead = place ∙ dead_by was was.state refl (sym (ap (λ v. v.state) place) ∙ dead)
 
-client_lives_on : (flag : ℕ) (bytes : List ℕ) (first last : InView) (retires more : Bool) (came : List ℕ) → first ≡ input_as flag bytes → ClientInLeft retires first last came more → last.faults ≡ 0 → last.state ≢ Dead
-client_lives_on flag bytes first last retires more came is left still = λ dead.
+client_lives_on : (flag : ℕ) (bytes : List ℕ) (first last : InView) (retires more : Bool) (further : List ℕ) → first ≡ input_as flag bytes → ClientInLeft retires first last further more → last.faults ≡ 0 → last.state ≢ Dead
+client_lives_on flag bytes first last retires more further is left still = λ dead.
     let same = dead_before retires left.was last left.place dead in
     lives_on flag bytes first left.was is left.left.gave.state (ap (λ v. v.faults) (sym same) ∙ still) (ap (λ v. v.state) (sym same) ∙ dead)
 
@@ -335,11 +335,11 @@ module _ (call : Call) (c : CallOf call) (k : Carrying call c) (is_plan : plan_o
       is = refl;
     };
     carries = refl;
-    line_in = λ x a number slots has from. record { given = input_of call a; had = line_gave x a number slots has from; frames = refl };
+    line_in = λ x a number slots has from. record { available = input_of call a; had = line_gave x a number slots has from; frames = refl };
     client_in = λ x n has from.
         let lives = client_lives x n has from in
         record {
-          given = input_of call (4 + n);
+          available = input_of call (4 + n);
           had = gave_all (get_or call.present (4 + n) 0) (part_of call.inputs call.ends (4 + n)) (client_in_at c.first n) (client_in_at c.last n) (client_opened x n has from) lives;
           packets = ap (λ died. input_given died (input_of call (4 + n))) (sym (none_died (client_in_at c.first n).state (client_in_at c.last n).state lives));
         };

@@ -24,10 +24,10 @@ flagged : (flag : ℕ) (bytes : List ℕ) → flag ≢ 0 → input_as flag bytes
 flagged zero bytes there = absurd (there refl)
 flagged (suc n) bytes there = refl
 
-pub had_by : (state : State) (given : List ℕ) (left : Option (List ℕ)) → (state ≡ Dead → ⊥) → given_between Live state (Some given) left given
-had_by Empty given left lives = refl
-had_by Live given left lives = refl
-had_by Dead given left lives = absurd (lives refl)
+pub had_by : (state : State) (available : List ℕ) (left : Option (List ℕ)) → (state ≡ Dead → ⊥) → given_between Live state (Some available) left available
+had_by Empty available left lives = refl
+had_by Live available left lives = refl
+had_by Dead available left lives = absurd (lives refl)
 
 abbrev pub bytes_in : Option (List ℕ) → List ℕ
 bytes_in None = []
@@ -55,44 +55,44 @@ not_nine code ended is = not_other code 9 is ended (omega arith)
 
 -- what is known of a command over a line that tells its bytes: what it writes, and that it is Cut by a dead line
 abbrev pub WritesOfGiven : ((old new : Device) → Status → Type 0) → (List ℕ → List ℕ) → Type 0
-WritesOfGiven Ran wanted = (old new : Device) (answer : Status) (given : List ℕ) → Ran old new answer
-    → HadToGive (line_zero old) (line_zero new) given → Reports answer old.report.got new.report.got (wanted given)
+WritesOfGiven Ran wanted = (old new : Device) (answer : Status) (available : List ℕ) → Ran old new answer
+    → HadToGive (line_zero old) (line_zero new) available → Reports answer old.report.got new.report.got (wanted available)
 
 abbrev pub CutsWhereDead : ((old new : Device) → Status → Type 0) → Type 0
 CutsWhereDead Ran = (old new : Device) (answer : Status) → Ran old new answer → answer ≢ status.ReportFault → (line_zero new).state ≡ Dead → answer ≡ status.Cut
 
 module _ (Ran : (old new : Device) → Status → Type 0) (wanted : List ℕ → List ℕ) (law : WritesOfGiven Ran wanted) (cuts : CutsWhereDead Ran) where
-  had : (old new : Device) (given : List ℕ) (answer : Status) → line_zero old ≡ holding given → Ran old new answer → (code_of answer ≡ 0) ⊎ (code_of answer ≡ 1)
-      → HadToGive (line_zero old) (line_zero new) given
-  had old new given answer is ran code =
+  had : (old new : Device) (available : List ℕ) (answer : Status) → line_zero old ≡ holding available → Ran old new answer → (code_of answer ≡ 0) ⊎ (code_of answer ≡ 1)
+      → HadToGive (line_zero old) (line_zero new) available
+  had old new available answer is ran code =
       let whole : answer ≢ status.ReportFault = λ e. not_five (code_of answer) (ap code_of e) code in
-      subst (λ v. HadToGive v (line_zero new) given) (sym is)
-      (had_by (line_zero new).state given (line_zero new).left (λ dead. not_six (code_of answer) (ap code_of (cuts old new answer ran whole dead)) code))
+      subst (λ v. HadToGive v (line_zero new) available) (sym is)
+      (had_by (line_zero new).state available (line_zero new).left (λ dead. not_six (code_of answer) (ap code_of (cuts old new answer ran whole dead)) code))
 
-  written : (old new : Device) (given : List ℕ) (answer : Status) → line_zero old ≡ holding given → old.report.got ≡ Some []
-      → (code_of answer ≡ 0) ⊎ (code_of answer ≡ 1) → LineAnswers Ran old new answer → bytes_in new.report.got ≡ wanted given
-  written old new given status.Done is fresh code lines =
+  written : (old new : Device) (available : List ℕ) (answer : Status) → line_zero old ≡ holding available → old.report.got ≡ Some []
+      → (code_of answer ≡ 0) ⊎ (code_of answer ≡ 1) → LineAnswers Ran old new answer → bytes_in new.report.got ≡ wanted available
+  written old new available status.Done is fresh code lines =
       let ran = lines.ran (λ e. absurd (omega (arith, ap code_of e))) in
-      let wrote : Reports status.Done (Some []) new.report.got (wanted given)
-      = subst (λ g. Reports status.Done g new.report.got (wanted given)) fresh (law old new status.Done given ran (had old new given status.Done is ran code)) in
+      let wrote : Reports status.Done (Some []) new.report.got (wanted available)
+      = subst (λ g. Reports status.Done g new.report.got (wanted available)) fresh (law old new status.Done available ran (had old new available status.Done is ran code)) in
       ap bytes_in wrote
-  written old new given status.Unfinished is fresh code lines =
+  written old new available status.Unfinished is fresh code lines =
       let ran = lines.ran (λ e. absurd (omega (arith, ap code_of e))) in
-      let wrote : Reports status.Unfinished (Some []) new.report.got (wanted given)
-      = subst (λ g. Reports status.Unfinished g new.report.got (wanted given)) fresh (law old new status.Unfinished given ran (had old new given status.Unfinished is ran code)) in
+      let wrote : Reports status.Unfinished (Some []) new.report.got (wanted available)
+      = subst (λ g. Reports status.Unfinished g new.report.got (wanted available)) fresh (law old new status.Unfinished available ran (had old new available status.Unfinished is ran code)) in
       ap bytes_in wrote
-  written old new given status.Words is fresh (inl e) lines = absurd (omega (arith, e))
-  written old new given status.Words is fresh (inr e) lines = absurd (omega (arith, e))
-  written old new given (status.Plan error place) is fresh (inl e) lines = absurd (omega (arith, e))
-  written old new given (status.Plan error place) is fresh (inr e) lines = absurd (omega (arith, e))
-  written old new given status.PlanFault is fresh (inl e) lines = absurd (omega (arith, e))
-  written old new given status.PlanFault is fresh (inr e) lines = absurd (omega (arith, e))
-  written old new given status.ReportFault is fresh (inl e) lines = absurd (omega (arith, e))
-  written old new given status.ReportFault is fresh (inr e) lines = absurd (omega (arith, e))
-  written old new given status.Cut is fresh (inl e) lines = absurd (omega (arith, e))
-  written old new given status.Cut is fresh (inr e) lines = absurd (omega (arith, e))
-  written old new given status.Memory is fresh (inl e) lines = absurd (omega (arith, e))
-  written old new given status.Memory is fresh (inr e) lines = absurd (omega (arith, e))
+  written old new available status.Words is fresh (inl e) lines = absurd (omega (arith, e))
+  written old new available status.Words is fresh (inr e) lines = absurd (omega (arith, e))
+  written old new available (status.Plan error place) is fresh (inl e) lines = absurd (omega (arith, e))
+  written old new available (status.Plan error place) is fresh (inr e) lines = absurd (omega (arith, e))
+  written old new available status.PlanFault is fresh (inl e) lines = absurd (omega (arith, e))
+  written old new available status.PlanFault is fresh (inr e) lines = absurd (omega (arith, e))
+  written old new available status.ReportFault is fresh (inl e) lines = absurd (omega (arith, e))
+  written old new available status.ReportFault is fresh (inr e) lines = absurd (omega (arith, e))
+  written old new available status.Cut is fresh (inl e) lines = absurd (omega (arith, e))
+  written old new available status.Cut is fresh (inr e) lines = absurd (omega (arith, e))
+  written old new available status.Memory is fresh (inl e) lines = absurd (omega (arith, e))
+  written old new available status.Memory is fresh (inr e) lines = absurd (omega (arith, e))
 
   -- the report of a call that did it over a line that was handed in
   over_bytes : (command : Command) (line plan block ends present : List ℕ) (code : ℕ) (told : Answer) (outputs output_ends report : List ℕ)
@@ -110,8 +110,8 @@ module _ (Ran : (old new : Device) → Status → Type 0) (wanted : List ℕ →
       ap bytes_in (sym gives.1.report_got)
       ∙ written old new (part_of block ends 0) call.answer is refl (subst (λ n. (n ≡ 0) ⊎ (n ≡ 1)) code_is ended) (lines old new 0 answers.1 call.answer answers.2)
 
-pub slot_over_bytes : ((slot : ℕ) (old new : Device) (answer : Status) (given : List ℕ) → SlotRan slot old new answer → HadToGive (line_zero old) (line_zero new) given
-    → Reports answer old.report.got new.report.got (slot_report slot given))
+pub slot_over_bytes : ((slot : ℕ) (old new : Device) (answer : Status) (available : List ℕ) → SlotRan slot old new answer → HadToGive (line_zero old) (line_zero new) available
+    → Reports answer old.report.got new.report.got (slot_report slot available))
     → (line plan block ends present : List ℕ) (code : ℕ) (told : Answer) (outputs output_ends report : List ℕ)
     → ((code ≢ no_memory) → (code ≢ no_call) → Called line plan block ends present code told outputs output_ends report)
     → SlotOverBytes line block ends present code told report
@@ -119,8 +119,8 @@ slot_over_bytes law line plan block ends present code told outputs output_ends r
     over_bytes (SlotRan slot) (slot_report slot) (law slot) (λ old new answer ran whole dead. ran.cut.1 dead) (Slot slot) line plan block ends present code told outputs output_ends report
     (λ old new asked now answer lines. lines) called form there ended
 
-pub pull_over_bytes : ((own : Tributary) (old new : Device) (answer : Status) (given : List ℕ) → PullRan own old new answer → HadToGive (line_zero old) (line_zero new) given
-    → Reports answer old.report.got new.report.got (pull_report own given))
+pub pull_over_bytes : ((own : Tributary) (old new : Device) (answer : Status) (available : List ℕ) → PullRan own old new answer → HadToGive (line_zero old) (line_zero new) available
+    → Reports answer old.report.got new.report.got (pull_report own available))
     → (line plan block ends present : List ℕ) (code : ℕ) (told : Answer) (outputs output_ends report : List ℕ)
     → ((code ≢ no_memory) → (code ≢ no_call) → Called line plan block ends present code told outputs output_ends report)
     → PullOverBytes line block ends present code told report

@@ -21,7 +21,7 @@ GaveBy Lost old into new = (n : ℕ) × (n < length into) × Gave old (take n in
 
 -- what the answer of a write says of what went to a place in it: to one that is not live nothing goes
 abbrev pub GainedBy : Written → OutView → List ℕ → OutView → Type 0
-GainedBy written.Whole old bytes new = (went : List ℕ) × Gained old went new × (old.state ≡ Live → went ≡ bytes)
+GainedBy written.Whole old bytes new = (sent : List ℕ) × Gained old sent new × (old.state ≡ Live → sent ≡ bytes)
 GainedBy written.Lost old bytes new = (n : ℕ) × (n < length bytes) × Gained old (take n bytes) new
 
 -- a number raised by nothing, and raised twice
@@ -196,50 +196,50 @@ some_same : (a b : List ℕ) → Some a ≡ Some b → a ≡ b
 some_same a b e = ap (λ bytes. unwrap_or bytes []) e
 
 -- what Given has beyond the bytes taken: all that a live place has yet, and nothing of another
-pub record Beyond (bytes given : List ℕ) (now : State) (left : Option (List ℕ)) : Type 0 where
+pub record Beyond (bytes available : List ℕ) (now : State) (left : Option (List ℕ)) : Type 0 where
   pub rest : List ℕ
-  pub parts : given ≡ bytes ++ rest
+  pub parts : available ≡ bytes ++ rest
   pub live : now ≡ Live → left ≡ Some rest
   pub other : now ≢ Live → rest ≡ []
 
-lived : (bytes given : List ℕ) (left : Option (List ℕ)) → Some given ≡ before bytes left → Beyond bytes given Live left
-lived bytes given None e = absurd (grind arith)
-lived bytes given (Some rest) e = record { rest = rest; parts = grind arith; live = λ _. refl; other = λ no. absurd (no refl) }
+lived : (bytes available : List ℕ) (left : Option (List ℕ)) → Some available ≡ before bytes left → Beyond bytes available Live left
+lived bytes available None e = absurd (grind arith)
+lived bytes available (Some rest) e = record { rest = rest; parts = grind arith; live = λ _. refl; other = λ no. absurd (no refl) }
 
-died : (bytes given : List ℕ) (first left : Option (List ℕ)) → first ≡ before bytes left → Took first left given → Beyond bytes given Dead left
-died bytes given first left e took = record { rest = []; parts = rw (append-nil bytes) (append_cancel_right given bytes took.rest (some_same (given ++ took.rest) (bytes ++ took.rest) (sym took.had ∙ e ∙ ap (before bytes) took.has))); live = λ l. absurd (dead_not_live l); other = λ _. refl }
+died : (bytes available : List ℕ) (first left : Option (List ℕ)) → first ≡ before bytes left → Took first left available → Beyond bytes available Dead left
+died bytes available first left e took = record { rest = []; parts = rw (append-nil bytes) (append_cancel_right available bytes took.rest (some_same (available ++ took.rest) (bytes ++ took.rest) (sym took.had ∙ e ∙ ap (before bytes) took.has))); live = λ l. absurd (dead_not_live l); other = λ _. refl }
 
-idled : (bytes given : List ℕ) (s : State) (left : Option (List ℕ)) → s ≢ Live → bytes ≡ [] → given ≡ [] → Beyond bytes given s left
-idled bytes given s left idle e f = record { rest = []; parts = rw (e, f) refl; live = λ l. absurd (idle l); other = λ _. refl }
+idled : (bytes available : List ℕ) (s : State) (left : Option (List ℕ)) → s ≢ Live → bytes ≡ [] → available ≡ [] → Beyond bytes available s left
+idled bytes available s left idle e f = record { rest = []; parts = rw (e, f) refl; live = λ l. absurd (idle l); other = λ _. refl }
 
-beyond : (s t : State) (f g : ℕ) (first left : Option (List ℕ)) (bytes given : List ℕ) → first ≡ before bytes left → Lives s t f g → (s ≢ Live → bytes ≡ [])
-    → given_between s t first left given → Beyond bytes given t left
-beyond Live Live f g first left bytes given e lives idle all = lived bytes given left (sym all ∙ e)
-beyond Live Dead f g first left bytes given e lives idle took = died bytes given first left e took
-beyond Live Empty f g first left bytes given e (inl (same, n)) idle all = absurd (empty_not_live same)
-beyond Live Empty f g first left bytes given e (inr (l, d, k)) idle all = absurd (empty_not_dead d)
-beyond Empty t f g first left bytes given e (inl (same, n)) idle none = idled bytes given t left (λ l. empty_not_live (sym same ∙ l)) (idle empty_not_live) none
-beyond Empty t f g first left bytes given e (inr (l, d, k)) idle none = absurd (empty_not_live l)
-beyond Dead t f g first left bytes given e (inl (same, n)) idle none = idled bytes given t left (λ l. dead_not_live (sym same ∙ l)) (idle dead_not_live) none
-beyond Dead t f g first left bytes given e (inr (l, d, k)) idle none = absurd (dead_not_live l)
+beyond : (s t : State) (f g : ℕ) (first left : Option (List ℕ)) (bytes available : List ℕ) → first ≡ before bytes left → Lives s t f g → (s ≢ Live → bytes ≡ [])
+    → given_between s t first left available → Beyond bytes available t left
+beyond Live Live f g first left bytes available e lives idle all = lived bytes available left (sym all ∙ e)
+beyond Live Dead f g first left bytes available e lives idle took = died bytes available first left e took
+beyond Live Empty f g first left bytes available e (inl (same, n)) idle all = absurd (empty_not_live same)
+beyond Live Empty f g first left bytes available e (inr (l, d, k)) idle all = absurd (empty_not_dead d)
+beyond Empty t f g first left bytes available e (inl (same, n)) idle none = idled bytes available t left (λ l. empty_not_live (sym same ∙ l)) (idle empty_not_live) none
+beyond Empty t f g first left bytes available e (inr (l, d, k)) idle none = absurd (empty_not_live l)
+beyond Dead t f g first left bytes available e (inl (same, n)) idle none = idled bytes available t left (λ l. dead_not_live (sym same ∙ l)) (idle dead_not_live) none
+beyond Dead t f g first left bytes available e (inr (l, d, k)) idle none = absurd (dead_not_live l)
 
 -- Given is what was taken, and all that a live place has yet
-pub given_of_gave : (first now : InView) (bytes given : List ℕ) → Gave first bytes now → HadToGive first now given → Beyond bytes given now.state now.left
-given_of_gave first now bytes given h k = beyond first.state now.state first.faults now.faults first.left now.left bytes given h.takes.left h.state (λ no. (h.idle no).1) k
+pub given_of_gave : (first now : InView) (bytes available : List ℕ) → Gave first bytes now → HadToGive first now available → Beyond bytes available now.state now.left
+given_of_gave first now bytes available h k = beyond first.state now.state first.faults now.faults first.left now.left bytes available h.takes.left h.state (λ no. (h.idle no).1) k
 
 grew : (first now : Option (List ℕ)) (bytes gone : List ℕ) → now ≡ after first bytes → Grew first now gone → gone ≡ bytes
 grew first now bytes gone e k = append_cancel_left k.before gone bytes (some_same (k.before ++ gone) (k.before ++ bytes) (sym k.has ∙ e ∙ ap (λ got. after got bytes) k.had))
 
-went : (s t : State) (first now : Option (List ℕ)) (bytes gone : List ℕ) → now ≡ after first bytes → (s ≢ Live → bytes ≡ []) → gone_between s t first now gone → gone ≡ bytes
-went Live Live first now bytes gone e idle k = grew first now bytes gone e k
-went Live Dead first now bytes gone e idle k = grew first now bytes gone e k
-went Live Empty first now bytes gone e idle k = absurd k
-went Empty t first now bytes gone e idle k = k ∙ sym (idle empty_not_live)
-went Dead t first now bytes gone e idle k = k ∙ sym (idle dead_not_live)
+sent : (s t : State) (first now : Option (List ℕ)) (bytes gone : List ℕ) → now ≡ after first bytes → (s ≢ Live → bytes ≡ []) → gone_between s t first now gone → gone ≡ bytes
+sent Live Live first now bytes gone e idle k = grew first now bytes gone e k
+sent Live Dead first now bytes gone e idle k = grew first now bytes gone e k
+sent Live Empty first now bytes gone e idle k = absurd k
+sent Empty t first now bytes gone e idle k = k ∙ sym (idle empty_not_live)
+sent Dead t first now bytes gone e idle k = k ∙ sym (idle dead_not_live)
 
 -- Gone is what went to the place
 pub gone_of_gained : (first now : OutView) (bytes gone : List ℕ) → Gained first bytes now → IsGone first now gone → gone ≡ bytes
-gone_of_gained first now bytes gone h k = went first.state now.state first.got now.got bytes gone h.sends.got (λ idle. (h.idle idle).1) k
+gone_of_gained first now bytes gone h k = sent first.state now.state first.got now.got bytes gone h.sends.got (λ idle. (h.idle idle).1) k
 
 -- below the end of the number, a place counts exactly the bytes
 pub raised-below : (n k m : ℕ) → m ≡ raised n k → m < 2 ^ 64 - 1 → m ≡ n + k

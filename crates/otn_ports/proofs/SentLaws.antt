@@ -11,18 +11,18 @@ use Rattle.otn_ports.proofs.GivenLaws.{GainedBy, gained_none, gained_twice, writ
 
 -- nothing was due, and nothing is gone
 pub sent_none : (place : OutView) → IsSent place [] place
-sent_none place = record { went = []; rest = []; parts = refl; gained = gained_none place; whole = λ _. refl }
+sent_none place = record { written = []; rest = []; parts = refl; gained = gained_none place; whole = λ _. refl }
 
 -- of what is due to a place that is live, all is gone
-went_all : (first now : OutView) (due : List ℕ) (h : IsSent first due now) → now.state ≡ Live → h.went ≡ due
-went_all first now due h live = sym (append-nil h.went) ∙ ap (λ r. h.went ++ r) (sym (h.whole live)) ∙ h.parts
+went_all : (first now : OutView) (due : List ℕ) (h : IsSent first due now) → now.state ≡ Live → h.written ≡ due
+went_all first now due h live = sym (append-nil h.written) ∙ ap (λ r. h.written ++ r) (sym (h.whole live)) ∙ h.parts
 
 -- a place that is not live takes nothing more
 pub idle_sent : (first now : OutView) (due bytes : List ℕ) → now.state ≢ Live → IsSent first due now → IsSent first (due ++ bytes) now
 idle_sent first now due bytes idle h = record {
-  went = h.went;
+  written = h.written;
   rest = h.rest ++ bytes;
-  parts = sym (append_assoc h.went h.rest bytes) ∙ ap (λ x. x ++ bytes) h.parts;
+  parts = sym (append_assoc h.written h.rest bytes) ∙ ap (λ x. x ++ bytes) h.parts;
   gained = h.gained;
   whole = λ alive. absurd (idle alive);
 }
@@ -36,10 +36,10 @@ sent_twice first old new due bytes h k = by_state old.state refl
 
     by_state : (s : State) → old.state ≡ s → IsSent first (due ++ bytes) new
     by_state Live e = record {
-      went = h.went ++ k.went;
+      written = h.written ++ k.written;
       rest = k.rest;
-      parts = append_assoc h.went k.went k.rest ∙ rw (k.parts, went_all first old due h e) refl;
-      gained = gained_twice first old new h.went k.went h.gained k.gained;
+      parts = append_assoc h.written k.written k.rest ∙ rw (k.parts, went_all first old due h e) refl;
+      gained = gained_twice first old new h.written k.written h.gained k.gained;
       whole = k.whole;
     }
     by_state Empty e = dull (λ l. empty_not_live (sym e ∙ l))
@@ -47,15 +47,15 @@ sent_twice first old new due bytes h k = by_state old.state refl
 
 -- a live place takes what it is given, or a part of it and dies
 live_sent : (result : Written) (old new : OutView) (bytes : List ℕ) → old.state ≡ Live → new.state ≡ state_after_write Live result → GainedBy result old bytes new → IsSent old bytes new
-live_sent written.Whole old new bytes live state (went, gained, all) = record {
-  went = went;
+live_sent written.Whole old new bytes live state (sent, gained, all) = record {
+  written = sent;
   rest = [];
-  parts = append-nil went ∙ all live;
+  parts = append-nil sent ∙ all live;
   gained = gained;
   whole = λ _. refl;
 }
 live_sent written.Lost old new bytes live state (n, less, gained) = record {
-  went = take n bytes;
+  written = take n bytes;
   rest = drop n bytes;
   parts = take-append-drop n bytes;
   gained = gained;
@@ -63,7 +63,7 @@ live_sent written.Lost old new bytes live state (n, less, gained) = record {
 }
 
 idle_write_sent : (result : Written) (old new : OutView) (bytes : List ℕ) → old.state ≢ Live → GainedBy result old bytes new → IsSent old bytes new
-idle_write_sent written.Whole old new bytes idle (went, gained, all) = rw (gained.idle idle).0 (idle_sent old old [] bytes idle (sent_none old))
+idle_write_sent written.Whole old new bytes idle (sent, gained, all) = rw (gained.idle idle).0 (idle_sent old old [] bytes idle (sent_none old))
 idle_write_sent written.Lost old new bytes idle (n, less, gained) = rw (gained.idle idle).0 (idle_sent old old [] bytes idle (sent_none old))
 
 -- from what a whole write ensures: what of its bytes is gone
@@ -82,7 +82,7 @@ write_sent result old new bytes state live idle = by_state old.state refl
 -- a live place of which a write was lost, and which was then made dead
 pub lost_sent : (old mid new : OutView) (bytes : List ℕ) → old.state ≡ Live → Writes written.Lost old bytes mid → new ≡ record mid { state = Dead } → IsSent old bytes new
 lost_sent old mid new bytes live (n, less, sends, failed) e = rw e (record {
-  went = take n bytes;
+  written = take n bytes;
   rest = drop n bytes;
   parts = take-append-drop n bytes;
   gained = record {

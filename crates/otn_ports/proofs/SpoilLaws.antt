@@ -150,16 +150,16 @@ pub due_mask : (old pairs : List (ℕ × ℕ)) (from i place mask : ℕ) → pla
 due_mask old pairs from i place mask e h rest = h ∙ ap (mask_at old) (e ∙ sym (plus_zero (raised from i))) ∙ rest 0 ∙ ap (mask_at pairs) (plus_zero (from + i))
 
 -- what a source has yet, spoiled, before and after bytes came of it and were spoiled
-pub read_spoiled : (old new : Option (List ℕ)) (pairs : List (ℕ × ℕ)) (next used at at' n : ℕ) (came out tail : List ℕ) → length came ≡ n → old ≡ before came new → out ≡ spoiled (drop next pairs) at came → at' ≡ raised at n
-    → ((k : ℕ) → mask_at (drop used (drop next pairs)) (raised at (length came) + k) ≡ mask_at (drop next pairs) (at + length came + k))
+pub read_spoiled : (old new : Option (List ℕ)) (pairs : List (ℕ × ℕ)) (next used at at' n : ℕ) (further out tail : List ℕ) → length further ≡ n → old ≡ before further new → out ≡ spoiled (drop next pairs) at further → at' ≡ raised at n
+    → ((k : ℕ) → mask_at (drop used (drop next pairs)) (raised at (length further) + k) ≡ mask_at (drop next pairs) (at + length further + k))
     → option_map (spoiled (drop next pairs) at) old ≡ before (take n (out ++ tail)) (option_map (spoiled (drop (next + used) pairs) at') new)
-read_spoiled old None pairs next used at at' n came out tail size e out_is at_is rest = rw e refl
-read_spoiled old (Some left) pairs next used at at' n came out tail size e out_is at_is rest =
-    let front : take n (out ++ tail) ≡ out = take_all n out tail (rw out_is (length-spoiled (drop next pairs) at came ∙ size)) in
-    let at_size : at' ≡ raised at (length came) = at_is ∙ ap (raised at) (sym size) in
-    let same : (k : ℕ) → mask_at (drop next pairs) (at + length came + k) ≡ mask_at (drop (next + used) pairs) (raised at (length came) + k) = λ k. sym (rest k) ∙ ap (λ l. mask_at l (raised at (length came) + k)) (drop-drop used next pairs) in
-    let behind : spoiled (drop next pairs) (at + length came) left ≡ spoiled (drop (next + used) pairs) at' left = rw at_size (spoiled_same (drop next pairs) (drop (next + used) pairs) (at + length came) (raised at (length came)) left same) in
-    rw (e, front, out_is) (ap Some (spoiled_append (drop next pairs) at came left ∙ ap (λ l. spoiled (drop next pairs) at came ++ l) behind))
+read_spoiled old None pairs next used at at' n further out tail size e out_is at_is rest = rw e refl
+read_spoiled old (Some left) pairs next used at at' n further out tail size e out_is at_is rest =
+    let front : take n (out ++ tail) ≡ out = take_all n out tail (rw out_is (length-spoiled (drop next pairs) at further ∙ size)) in
+    let at_size : at' ≡ raised at (length further) = at_is ∙ ap (raised at) (sym size) in
+    let same : (k : ℕ) → mask_at (drop next pairs) (at + length further + k) ≡ mask_at (drop (next + used) pairs) (raised at (length further) + k) = λ k. sym (rest k) ∙ ap (λ l. mask_at l (raised at (length further) + k)) (drop-drop used next pairs) in
+    let behind : spoiled (drop next pairs) (at + length further) left ≡ spoiled (drop (next + used) pairs) at' left = rw at_size (spoiled_same (drop next pairs) (drop (next + used) pairs) (at + length further) (raised at (length further)) left same) in
+    rw (e, front, out_is) (ap Some (spoiled_append (drop next pairs) at further left ∙ ap (λ l. spoiled (drop next pairs) at further ++ l) behind))
 
 -- the pairs that are left, as a slice of all
 pub left_pairs : (lent pairs : List (ℕ × ℕ)) (next : ℕ) → lent ≡ pairs → take (length lent - next) (drop next lent) ≡ drop next pairs

@@ -32,5 +32,5 @@ Gains Lost old bytes new = (n : ℕ) × (n < length bytes) × (new ≡ after old
 
 -- what so many bytes that went out of so many make of an answer
 abbrev pub IsWriting : Written → ℕ → ℕ → Type 0
-IsWriting Whole went all = went ≡ all
-IsWriting Lost went all = went < all
+IsWriting Whole written all = written ≡ all
+IsWriting Lost written all = written < all

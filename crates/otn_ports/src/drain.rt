@@ -60,9 +60,9 @@ pub(crate) fn drain_counted<K: Sink>(port: &mut K, number: &mut u64, bytes: &[u8
         (live_out K.Sink port.new number.new) }
     ensures well { result ≢ Written.Lost → K.faults port.new ≡ K.faults port.old }
 {
-    let (written, went) = drain(port, bytes);
-    *number = number.saturating_add(went as u64);
-    written
+    let (answer, written) = drain(port, bytes);
+    *number = number.saturating_add(written as u64);
+    answer
 }
 
 /// Writes lines to the port of a live place until all are out or a call fails, counts their bytes, and says how many
@@ -78,7 +78,7 @@ pub(crate) fn lines_counted<K: Sink>(
     ensures cause { result.0 ≡ Written.Lost → HasFailed (K.faults port.old) (K.faults port.new) }
     ensures well { result.0 ≢ Written.Lost → K.faults port.new ≡ K.faults port.old }
 {
-    let (written, went) = port.write_lines(lines);
-    *number = number.saturating_add(went as u64);
-    (written, went)
+    let (answer, written) = port.write_lines(lines);
+    *number = number.saturating_add(written as u64);
+    (answer, written)
 }

@@ -57,8 +57,8 @@ impl<P: Source> InPlaceOf<P> {
         }
         let reading = match self {
             InPlaceOf::Live(port, number) => {
-                let (reading, came) = read_whole(port, into);
-                *number = number.saturating_add(came as u64);
+                let (reading, further) = read_whole(port, into);
+                *number = number.saturating_add(further as u64);
                 reading
             }
             InPlaceOf::Empty => return Reading::End(0),

@@ -48,15 +48,15 @@ impl<K: Sink> OutPlaceOf<K> {
         if bytes.is_empty() {
             return Written::Whole;
         }
-        let written = match self {
+        let answer = match self {
             OutPlaceOf::Live(port, number) => drain_counted(port, number, bytes),
             OutPlaceOf::Empty => return Written::Whole,
             OutPlaceOf::Dead(..) => return Written::Whole,
         };
-        if written == Written::Lost {
+        if answer == Written::Lost {
             self.die();
         }
-        written
+        answer
     }
 
     /// Writes lines, each with its LF at its end, and says how many bytes went: all lines at once to a file of the
@@ -67,7 +67,7 @@ impl<K: Sink> OutPlaceOf<K> {
             → Writes result.0 (out_view K.Sink self.old) lines.now (out_view K.Sink self.new) }
         ensures idle { (out_view K.Sink self.old).state ≢ Live → (self.new ≡ self.old) × (result ≡ (Written.Whole, 0)) }
         ensures sent { IsSent (out_view K.Sink self.old) lines.now (out_view K.Sink self.new) }
-        ensures went { Gained (out_view K.Sink self.old) (take result.1 lines.now) (out_view K.Sink self.new) }
+        ensures written { Gained (out_view K.Sink self.old) (take result.1 lines.now) (out_view K.Sink self.new) }
         ensures writing { (out_view K.Sink self.old).state ≡ Live → IsWriting result.0 result.1 (length lines.now) }
         ensures well { result.0 ≢ Written.Lost → (out_view K.Sink self.new).faults ≡ (out_view K.Sink self.old).faults }
         ensures empty { length lines.now ≡ 0 → (self.new ≡ self.old) × (result ≡ (Written.Whole, 0)) }
@@ -75,7 +75,7 @@ impl<K: Sink> OutPlaceOf<K> {
         if lines.is_empty() {
             return (Written::Whole, 0);
         }
-        let (answer, went) = match self {
+        let (answer, written) = match self {
             OutPlaceOf::Live(port, number) => lines_counted(port, number, lines),
             OutPlaceOf::Empty => return (Written::Whole, 0),
             OutPlaceOf::Dead(..) => return (Written::Whole, 0),
@@ -83,7 +83,7 @@ impl<K: Sink> OutPlaceOf<K> {
         if answer == Written::Lost {
             self.die();
         }
-        (answer, went)
+        (answer, written)
     }
 
     /// A live place becomes empty, and its port is dropped. An empty or a dead place stays.

@@ -21,15 +21,15 @@ pub record Behind (packets : List (List ℕ)) (bytes line : List ℕ) : Type 0 w
   pub packets_are : packets_of (full_lines bytes) ≡ record { packets = packets; ending = Ended }
   pub begun : begun_line bytes ≡ line
 
-pub behind_lines : {taken : List ℕ} {packets : List (List ℕ)} {old : LinesView} → (h : GoesOn taken packets old) → old.ended ≡ false → (more line : List ℕ) → old.hand ++ more ≡ line → has_lf line ≡ false → Behind packets (taken ++ more) line
+pub behind_lines : {read : List ℕ} {packets : List (List ℕ)} {old : LinesView} → (h : GoesOn read packets old) → old.ended ≡ false → (more line : List ℕ) → old.hand ++ more ≡ line → has_lf line ≡ false → Behind packets (read ++ more) line
 unfolding lines_of
-behind_lines {taken = taken} {packets = packets} {old = old} h still more line e clean =
-    let all : taken ++ more ≡ h.used ++ line = ap (λ b. b ++ more) h.parts ∙ append_assoc h.used old.hand more ∙ ap (λ b. h.used ++ b) e in
-    let full : full_lines (taken ++ more) ≡ h.used = ap full_lines all ∙ h.full still line ∙ ap (λ b. h.used ++ b) (full_lines-none line clean) ∙ append-nil h.used in
-    let lines : lines_of (full_lines (taken ++ more)) ≡ h.lines ++ [] = ap lines_of (full ∙ sym (append-nil h.used)) ∙ h.split still [] in
+behind_lines {read = read} {packets = packets} {old = old} h still more line e clean =
+    let all : read ++ more ≡ h.used ++ line = ap (λ b. b ++ more) h.parts ∙ append_assoc h.used old.hand more ∙ ap (λ b. h.used ++ b) e in
+    let full : full_lines (read ++ more) ≡ h.used = ap full_lines all ∙ h.full still line ∙ ap (λ b. h.used ++ b) (full_lines-none line clean) ∙ append-nil h.used in
+    let lines : lines_of (full_lines (read ++ more)) ≡ h.lines ++ [] = ap lines_of (full ∙ sym (append-nil h.used)) ∙ h.split still [] in
     record {
-      packets_are = has_ended h (full_lines (taken ++ more)) lines;
-      begun = ap (λ f. drop (length f) (taken ++ more)) full ∙ ap (drop (length h.used)) all ∙ drop_at h.used line (length h.used) refl;
+      packets_are = has_ended h (full_lines (read ++ more)) lines;
+      begun = ap (λ f. drop (length f) (read ++ more)) full ∙ ap (drop (length h.used)) all ∙ drop_at h.used line (length h.used) refl;
     }
 
 not_shown : (ending : TextEnding) (n : ℕ) → ending ≡ Ended → n ≤ 131055 → (is_bad ending || nat_lt 131055 n) ≡ false
@@ -53,41 +53,41 @@ pub shown_long : (bytes line : List ℕ) → begun_line bytes ≡ line → 13105
 shown_long bytes line e long = rw e (shown_by_length (is_bad (packets_of (full_lines bytes)).ending) (length line) long)
 
 -- the line behind the lines so far is bad, and has its LF
-pub shown_by_lf : {taken : List ℕ} {packets : List (List ℕ)} {old : LinesView} {cnew : CutView} {was is : InView} → (h : GoesOn taken packets old) → (k : Cuts cut.Line old.hand old.ended was cnew is) → cnew.ended ≡ false
-    → line_gives h.lines cnew.line ≡ None → (number : ℕ) → number ≡ saturated (length h.lines + 1) → shows_bad (taken ++ k.came) ≡ true
-shown_by_lf {taken = taken} {packets = packets} {old = old} {cnew = cnew} h k still gives number counted =
+pub shown_by_lf : {read : List ℕ} {packets : List (List ℕ)} {old : LinesView} {cnew : CutView} {was is : InView} → (h : GoesOn read packets old) → (k : Cuts cut.Line old.hand old.ended was cnew is) → cnew.ended ≡ false
+    → line_gives h.lines cnew.line ≡ None → (number : ℕ) → number ≡ saturated (length h.lines + 1) → shows_bad (read ++ k.further) ≡ true
+shown_by_lf {read = read} {packets = packets} {old = old} {cnew = cnew} h k still gives number counted =
     let line = cnew.line in
-    let came = k.came in
+    let further = k.further in
     let open_text = was_open k.reads still in
     let rest = full_lines cnew.hand in
-    let all : taken ++ came ≡ h.used ++ (line ++ 10 ∷ cnew.hand) = ap (λ b. b ++ came) h.parts ∙ append_assoc h.used old.hand came ∙ ap (λ b. h.used ++ b) k.met in
-    let full : full_lines (taken ++ came) ≡ h.used ++ (line ++ 10 ∷ rest) =
+    let all : read ++ further ≡ h.used ++ (line ++ 10 ∷ cnew.hand) = ap (λ b. b ++ further) h.parts ∙ append_assoc h.used old.hand further ∙ ap (λ b. h.used ++ b) k.met in
+    let full : full_lines (read ++ further) ≡ h.used ++ (line ++ 10 ∷ rest) =
     ap full_lines all ∙ h.full open_text (line ++ 10 ∷ cnew.hand) ∙ ap (λ b. h.used ++ b) (full_lines-line line cnew.hand ∙ append_assoc line (10 ∷ []) rest) in
-    let lines : lines_of (full_lines (taken ++ came)) ≡ h.lines ++ (line ∷ lines_of rest) =
+    let lines : lines_of (full_lines (read ++ further)) ≡ h.lines ++ (line ∷ lines_of rest) =
     ap lines_of full ∙ h.split open_text (line ++ 10 ∷ rest) ∙ ap (λ ls. h.lines ++ ls) (lines_of-line line rest k.clean) in
-    shown_bad packets number (taken ++ came) (has_bad h (full_lines (taken ++ came)) line (lines_of rest) number lines gives counted)
+    shown_bad packets number (read ++ further) (has_bad h (full_lines (read ++ further)) line (lines_of rest) number lines gives counted)
 
 -- the line behind them is too long
-pub shown_too_long : {taken : List ℕ} {packets : List (List ℕ)} {old : LinesView} {cnew : CutView} {was is : InView} → (h : GoesOn taken packets old) → (k : Cuts cut.Long old.hand old.ended was cnew is) → cnew.ended ≡ false
-    → shows_bad (taken ++ k.came) ≡ true
-shown_too_long {taken = taken} {cnew = cnew} h k still =
+pub shown_too_long : {read : List ℕ} {packets : List (List ℕ)} {old : LinesView} {cnew : CutView} {was is : InView} → (h : GoesOn read packets old) → (k : Cuts cut.Long old.hand old.ended was cnew is) → cnew.ended ≡ false
+    → shows_bad (read ++ k.further) ≡ true
+shown_too_long {read = read} {cnew = cnew} h k still =
     let long = k.met in
-    shown_long (taken ++ k.came) cnew.line (behind_lines h (was_open k.reads still) k.came cnew.line long.0 k.clean).begun long.2
+    shown_long (read ++ k.further) cnew.line (behind_lines h (was_open k.reads still) k.further cnew.line long.0 k.clean).begun long.2
 
 nothing_shown : {packets : List (List ℕ)} {bytes line : List ℕ} → Behind packets bytes line → length line ≤ 131055 → shows_bad bytes ≡ false
 nothing_shown {bytes = bytes} {line = line} h short = rw h.begun (not_shown (packets_of (full_lines bytes)).ending (length line) (ap (λ (p : Packets). p.ending) h.packets_are) short)
 
 -- a last read is needed where the bytes before it show no bad line, and of what is asked for one packet is missing
-pub needed_last : {taken : List ℕ} {packets : List (List ℕ)} {old : LinesView} → (h : GoesOn taken packets old) → old.ended ≡ false → (short : Bool) (before last : List ℕ)
+pub needed_last : {read : List ℕ} {packets : List (List ℕ)} {old : LinesView} → (h : GoesOn read packets old) → old.ended ≡ false → (short : Bool) (before last : List ℕ)
     → length before % 4096 ≡ 0 → length last ≤ 4096 → (short ≡ false → length last % 4096 ≡ 0) → (short ≡ true → length last < 4096)
-    → has_lf (old.hand ++ before) ≡ false → length (old.hand ++ before) ≤ 131055 → ReadAsNeeded short (length packets + 1) (taken ++ (before ++ last))
-needed_last {taken = taken} {packets = packets} {old = old} h still short before last blocks most whole part clean few =
+    → has_lf (old.hand ++ before) ≡ false → length (old.hand ++ before) ≤ 131055 → ReadAsNeeded short (length packets + 1) (read ++ (before ++ last))
+needed_last {read = read} {packets = packets} {old = old} h still short before last blocks most whole part clean few =
     let b = behind_lines h still before (old.hand ++ before) refl clean in
     record {
-      before = taken ++ before;
+      before = read ++ before;
       last = last;
-      parts = sym (append_assoc taken before last);
-      blocks = (let e = h.blocks still in rw (length-append taken before) (omega (arith, e, blocks)));
+      parts = sym (append_assoc read before last);
+      blocks = (let e = h.blocks still in rw (length-append read before) (omega (arith, e, blocks)));
       most = most;
       whole = whole;
       part = part;
@@ -96,8 +96,8 @@ needed_last {taken = taken} {packets = packets} {old = old} h still short before
     }
 
 -- as many packets were asked for, or more
-pub more_asked : (short : Bool) (asked more : ℕ) (taken : List ℕ) → asked ≤ more → ReadAsNeeded short asked taken → ReadAsNeeded short more taken
-more_asked short asked more taken le h = record {
+pub more_asked : (short : Bool) (asked more : ℕ) (read : List ℕ) → asked ≤ more → ReadAsNeeded short asked read → ReadAsNeeded short more read
+more_asked short asked more read le h = record {
   before = h.before;
   last = h.last;
   parts = h.parts;
@@ -110,16 +110,16 @@ more_asked short asked more taken le h = record {
 }
 
 -- so far, with the bytes that came
-pub reached : {first was is : InView} {taken came : List ℕ} {packets : List (List ℕ)} {old : LinesView} {seen : Bool} → Seeks first taken packets old was → Came old.hand old.ended was came seen is
-    → Reaches first (taken ++ came) (length packets + 1) seen is
-reached {first = first} {was = was} {is = is} {taken = taken} {came = came} {packets = packets} {old = old} {seen = seen} h k = record {
-  gave = gave_twice first was is taken came h.reaches.gave k.gave;
+pub reached : {first was is : InView} {read further : List ℕ} {packets : List (List ℕ)} {old : LinesView} {seen : Bool} → Seeks first read packets old was → Came old.hand old.ended was further seen is
+    → Reaches first (read ++ further) (length packets + 1) seen is
+reached {first = first} {was = was} {is = is} {read = read} {further = further} {packets = packets} {old = old} {seen = seen} h k = record {
+  gave = gave_twice first was is read further h.reaches.gave k.gave;
   over = k.over h.reaches.over;
   unended = λ e. k.unended e ∙ h.reaches.unended (was_open k e);
   alive = k.alive ∙ h.reaches.alive;
-  read = by_reads k.reads;
+  needed = by_reads k.reads;
 }
   where
-    by_reads : ((came ≡ []) × (seen ≡ old.ended)) ⊎ LastRead old.hand old.ended came seen → ReadAsNeeded seen (length packets + 1) (taken ++ came)
-    by_reads (inl (none, same)) = rw (same, none, append-nil taken) h.reaches.read
+    by_reads : ((further ≡ []) × (seen ≡ old.ended)) ⊎ LastRead old.hand old.ended further seen → ReadAsNeeded seen (length packets + 1) (read ++ further)
+    by_reads (inl (none, same)) = rw (same, none, append-nil read) h.reaches.needed
     by_reads (inr l) = rw l.parts (needed_last h.goes l.still_open seen l.before l.last l.blocks l.most l.whole l.part l.clean l.short)

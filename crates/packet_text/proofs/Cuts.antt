@@ -1,7 +1,6 @@
 -- How a cutter goes on with a line, block by block, and cuts it.
 use Rattle.std.proofs.Common.{◌≡◌, ◌≢◌, ◌<◌, ◌≤◌, ◌+◌, ◌-◌, ◌%◌, inl, inr, ℕ, Bool, true, false, List, [], ◌∷◌, ◌++◌, length, take, drop, arith, refl, sym, ap, ◌∙◌, append_assoc, append-nil, length-append}
 use Rattle.std.proofs.lemmas.List.{drop-drop, drop-take}
-use Rattle.std.proofs.Math.Seq.{take-length}
 use Rattle.otn_ports.specs.Views.{InView}
 use Rattle.otn_ports.proofs.GivenLaws.{gave_none, gave_twice}
 use Rattle.packet_text.specs.TextLines.{has_lf}
@@ -45,14 +44,14 @@ flag true f = absurd (f refl)
 flag false f = refl
 
 -- while the end is not seen, it was not before
-pub was_open : {hand came : List ℕ} {ended seen : Bool} {was is : InView} → Came hand ended was came seen is → seen ≡ false → ended ≡ false
+pub was_open : {hand further : List ℕ} {ended seen : Bool} {was is : InView} → Came hand ended was further seen is → seen ≡ false → ended ≡ false
 was_open {ended = ended} k still = flag ended (λ e. let q = (k.quiet e).1 in cc)
 
 -- a line begins with the bytes in hand
 pub goes_none : (line hand : List ℕ) (ended : Bool) (p : InView) → line ≡ [] → Goes hand ended p (record { line = line; hand = hand; ended = ended }) p
 unfolding has_lf
 goes_none line hand ended p none = rw none (record {
-  came = [];
+  further = [];
   reads = record { gave = gave_none p; quiet = λ e. (refl, e); over = λ f. f; unended = λ _. refl; alive = refl; blocks = λ _. refl; reads = inl (refl, refl) };
   clean = refl;
   all = append-nil hand;
@@ -65,25 +64,25 @@ few_none line none = rw none (omega arith)
 pub goes_all : {hand : List ℕ} {ended found : Bool} {p q : InView} {b c : CutView} → found ≡ false → GoesOnBy found b c → Goes hand ended p b q → Goes hand ended p c q
 goes_all {b = b} {c = c} no_lf g h =
     let all = g.all no_lf in
-    record { came = h.came; reads = rw g.ended h.reads; clean = g.clean h.clean; all = h.all ∙ sym all.0 ∙ sym (ap (λ bytes. c.line ++ bytes) all.1 ∙ append-nil c.line) }
+    record { further = h.further; reads = rw g.ended h.reads; clean = g.clean h.clean; all = h.all ∙ sym all.0 ∙ sym (ap (λ bytes. c.line ++ bytes) all.1 ∙ append-nil c.line) }
 
 -- a block goes on with the line
 pub goes_block : {hand : List ℕ} {ended : Bool} {p q s : InView} {c d : CutView} → c.hand ≡ [] → c.ended ≡ false → length c.line ≤ 131055 → BlockCame c q d s → Goes hand ended p c q → Goes hand ended p d s
 goes_block {hand = hand} {ended = ended} {p = p} {q = q} {s = s} {c = c} {d = d} none open_yet short k h =
-    let all : hand ++ h.came ≡ c.line = h.all ∙ ap (λ bytes. c.line ++ bytes) none ∙ append-nil c.line in
-    let blocks : length h.came % 4096 ≡ 0 = h.reads.blocks open_yet in
+    let all : hand ++ h.further ≡ c.line = h.all ∙ ap (λ bytes. c.line ++ bytes) none ∙ append-nil c.line in
+    let blocks : length h.further % 4096 ≡ 0 = h.reads.blocks open_yet in
     let still : ended ≡ false = was_open h.reads open_yet in
     record {
-      came = h.came ++ d.hand;
+      further = h.further ++ d.hand;
       reads = record {
-        gave = gave_twice p q s h.came d.hand h.reads.gave k.gave;
+        gave = gave_twice p q s h.further d.hand h.reads.gave k.gave;
         quiet = λ e. absurd (cc);
         over = λ _. k.over;
         unended = λ e. k.unended e ∙ h.reads.unended open_yet;
         alive = k.alive ∙ h.reads.alive;
-        blocks = λ e. (let size = k.whole e in rw (length-append h.came d.hand) (omega arith));
+        blocks = λ e. (let size = k.whole e in rw (length-append h.further d.hand) (omega arith));
         reads = inr (record {
-          before = h.came;
+          before = h.further;
           last = d.hand;
           parts = refl;
           blocks = blocks;
@@ -96,12 +95,12 @@ goes_block {hand = hand} {ended = ended} {p = p} {q = q} {s = s} {c = c} {d = d}
         });
       };
       clean = rw k.line h.clean;
-      all = sym (append_assoc hand h.came d.hand) ∙ ap (λ bytes. bytes ++ d.hand) (all ∙ sym k.line);
+      all = sym (append_assoc hand h.further d.hand) ∙ ap (λ bytes. bytes ++ d.hand) (all ∙ sym k.line);
     }
 
 -- such a line is cut
-pub cuts_by : {hand : List ℕ} {ended found : Bool} {p q : InView} {b c : CutView} (r : Cut) → GoesOnBy found b c → (h : Goes hand ended p b q) → Met r (hand ++ h.came) c → Cuts r hand ended p c q
-cuts_by r g h met = record { came = h.came; reads = rw g.ended h.reads; clean = g.clean h.clean; met = met }
+pub cuts_by : {hand : List ℕ} {ended found : Bool} {p q : InView} {b c : CutView} (r : Cut) → GoesOnBy found b c → (h : Goes hand ended p b q) → Met r (hand ++ h.further) c → Cuts r hand ended p c q
+cuts_by r g h met = record { further = h.further; reads = rw g.ended h.reads; clean = g.clean h.clean; met = met }
 
 -- the text has ended
 pub cuts_close : {hand : List ℕ} {ended found : Bool} {p q : InView} {b c : CutView} (r : Cut) → found ≡ false → GoesOnBy found b c → Goes hand ended p b q → c.ended ≡ true
@@ -116,7 +115,7 @@ cuts_close {hand = hand} {ended = ended} {p = p} {q = q} {c = c} r no_lf g h ove
 pub loses : {hand : List ℕ} {ended : Bool} {p q s : InView} {c d : CutView} → d ≡ record c { hand = [] } → c.hand ≡ [] → c.ended ≡ false → length c.line ≤ 131055 → BlockLost q s → Goes hand ended p c q → Loses hand ended p d s
 loses {q = q} {c = c} same none still few lost h = rw same (record {
   mid = q;
-  goes = record { came = h.came; reads = h.reads; clean = h.clean; all = h.all ∙ ap (λ bytes. c.line ++ bytes) none };
+  goes = record { further = h.further; reads = h.reads; clean = h.clean; all = h.all ∙ ap (λ bytes. c.line ++ bytes) none };
   none = refl;
   still = still;
   few = few;
@@ -143,8 +142,3 @@ left_less {b = b} {c = c} {d = d} no_lf g still short k = rw (sym g.ended ∙ st
 pub hand_none : (n : ℕ) (bytes : List ℕ) → take (n - n) bytes ≡ []
 hand_none n bytes = let e : n - n ≡ 0 = omega arith in rw e refl
 
-pub hand_from : (n : ℕ) (bytes : List ℕ) → take (n - 0) (drop 0 bytes) ≡ take n bytes
-hand_from n bytes = let e : n - 0 ≡ n = omega arith in rw e refl
-
-pub hand_all : (n : ℕ) (items block : List ℕ) → n ≡ length block → items ≡ block → take (n - 0) (drop 0 items) ≡ block
-hand_all n items block size e = hand_from n items ∙ ap (take n) e ∙ rw size (take-length block)

@@ -16,11 +16,11 @@ pub none_read : (digits bytes : List ℕ) → Read digits bytes 0
 none_read digits bytes = record { at = λ i h l. absurd (omega (arith, h)) }
 
 -- a block more
-pub more_read : (digits old new : List ℕ) (block last : ℕ) → length new ≡ length old → last + 16 ≡ length old
+pub further : (digits old new : List ℕ) (block last : ℕ) → length new ≡ length old → last + 16 ≡ length old
     → ((i : ℕ) → min (16 * block) last ≤ i → i < min (16 * block) last + 16 → IsPair (slice_index digits (2 * i)) (slice_index digits (2 * i + 1)) (slice_index new i))
     → ((i : ℕ) → i < min (16 * block) last → slice_index new i ≡ slice_index old i)
     → Read digits old (16 * block) → Read digits new (16 * (block + 1))
-more_read digits old new block last same size here before h = record { at = at_place }
+further digits old new block last same size here before h = record { at = at_place }
   where
     start : ℕ
     start = min (16 * block) last

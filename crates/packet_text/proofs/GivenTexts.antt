@@ -13,8 +13,8 @@ use Rattle.packet_text.proofs.Texts.{full_lines-front}
 ended_none : (left : Option (List ℕ)) (answered : Bool) (rest : List ℕ) → left ≡ Some rest → HasEnded left answered → rest ≡ []
 ended_none left answered rest e h = rw e at h.nothing
 
-same : (taken given : List ℕ) (now : InView) → (b : Beyond taken given now.state now.left) → b.rest ≡ [] → given ≡ taken
-same taken given now b e = b.parts ∙ ap (λ bytes. taken ++ bytes) e ∙ append-nil taken
+same : (read available : List ℕ) (now : InView) → (b : Beyond read available now.state now.left) → b.rest ≡ [] → available ≡ read
+same read available now b e = b.parts ∙ ap (λ bytes. read ++ bytes) e ∙ append-nil read
 
 nothing_left : (now : InView) (rest : List ℕ) → (now.state ≡ Live → now.left ≡ Some rest) → (now.state ≢ Live → rest ≡ []) → (now.state ≡ Live → HasEnded now.left now.ended) → rest ≡ []
 nothing_left now rest live other over = by_state now.state refl
@@ -24,21 +24,21 @@ nothing_left now rest live other over = by_state now.state refl
     by_state Empty e = other (λ l. (let f : Empty ≡ Live = sym e ∙ l in cc))
     by_state Dead e = other (λ l. dead_not_live (sym e ∙ l))
 
-among : (ended : Bool) (a : Line) (taken given rest : List ℕ) → given ≡ taken ++ rest → (ended ≡ true → rest ≡ []) → (a ≡ End → ended ≡ true) → a ≢ Lost → may_be ended a taken given
-among true a taken given rest parts none end alive = parts ∙ ap (λ bytes. taken ++ bytes) (none refl) ∙ append-nil taken
-among false Packet taken given rest parts none end alive =
-    let f = full_lines-front taken in
-    record { rest = f.rest ++ rest; parts = parts ∙ ap (λ bytes. bytes ++ rest) f.parts ∙ append_assoc (full_lines taken) f.rest rest }
-among false (Bad n) taken given rest parts none end alive = record { rest = rest; parts = parts }
-among false End taken given rest parts none end alive = absurd (let e = end refl in cc)
-among false Lost taken given rest parts none end alive = absurd (alive refl)
+among : (ended : Bool) (a : Line) (read available rest : List ℕ) → available ≡ read ++ rest → (ended ≡ true → rest ≡ []) → (a ≡ End → ended ≡ true) → a ≢ Lost → may_be ended a read available
+among true a read available rest parts none end alive = parts ∙ ap (λ bytes. read ++ bytes) (none refl) ∙ append-nil read
+among false Packet read available rest parts none end alive =
+    let f = full_lines-front read in
+    record { rest = f.rest ++ rest; parts = parts ∙ ap (λ bytes. bytes ++ rest) f.parts ∙ append_assoc (full_lines read) f.rest rest }
+among false (Bad n) read available rest parts none end alive = record { rest = rest; parts = parts }
+among false End read available rest parts none end alive = absurd (let e = end refl in cc)
+among false Lost read available rest parts none end alive = absurd (alive refl)
 
-dead_text : (ended : Bool) (a : Line) (taken given : List ℕ) → ended ≡ false → a ≡ Lost → given ≡ taken → may_be ended a taken (text_of_dead given)
-dead_text ended a taken given e f g = rw (e, f, g) refl
+dead_text : (ended : Bool) (a : Line) (read available : List ℕ) → ended ≡ false → a ≡ Lost → available ≡ read → may_be ended a read (text_of_dead available)
+dead_text ended a read available e f g = rw (e, f, g) refl
 
 pub given_among : GivenIsAmong
-given_among = λ first now taken given packets view h given_is.
-    let b = given_of_gave first now taken given h.gave given_is in (
-      λ alive. among view.ended view.answer taken given b.rest b.parts (λ e. nothing_left now b.rest b.live b.other (h.over e)) h.ended alive,
-      λ lost. (let l = h.lost lost in dead_text view.ended view.answer taken given l.0 lost (same taken given now b (b.other (λ live. dead_not_live (sym l.1 ∙ live))))),
+given_among = λ first now read available packets view h given_is.
+    let b = given_of_gave first now read available h.gave given_is in (
+      λ alive. among view.ended view.answer read available b.rest b.parts (λ e. nothing_left now b.rest b.live b.other (h.over e)) h.ended alive,
+      λ lost. (let l = h.lost lost in dead_text view.ended view.answer read available l.0 lost (same read available now b (b.other (λ live. dead_not_live (sym l.1 ∙ live))))),
     )

@@ -13,30 +13,30 @@ use Rattle.packet_text.proofs.Cuts.{was_open}
 use Rattle.packet_text.proofs.Texts.{lines_of-line, lines_of-last, full_lines-line}
 
 -- the lines of all that was taken
-pub all_lines : {seen : Bool} {was is : InView} {came taken : List ℕ} {packets : List (List ℕ)} {old : LinesView} → (h : GoesOn taken packets old) → Came old.hand old.ended was came seen is
-    → lines_of (taken ++ came) ≡ h.lines ++ lines_of (old.hand ++ came)
-all_lines {came = came} {taken = taken} {old = old} h k = by_flag old.ended refl
+pub all_lines : {seen : Bool} {was is : InView} {further read : List ℕ} {packets : List (List ℕ)} {old : LinesView} → (h : GoesOn read packets old) → Came old.hand old.ended was further seen is
+    → lines_of (read ++ further) ≡ h.lines ++ lines_of (old.hand ++ further)
+all_lines {further = further} {read = read} {old = old} h k = by_flag old.ended refl
   where
-    by_flag : (t : Bool) → old.ended ≡ t → lines_of (taken ++ came) ≡ h.lines ++ lines_of (old.hand ++ came)
-    by_flag true e = let q = (k.quiet e).0 in rw (q, append-nil taken, append-nil old.hand) (h.over e)
-    by_flag false e = ap (λ bytes. lines_of (bytes ++ came)) h.parts ∙ ap lines_of (append_assoc h.used old.hand came) ∙ h.split e (old.hand ++ came)
+    by_flag : (t : Bool) → old.ended ≡ t → lines_of (read ++ further) ≡ h.lines ++ lines_of (old.hand ++ further)
+    by_flag true e = let q = (k.quiet e).0 in rw (q, append-nil read, append-nil old.hand) (h.over e)
+    by_flag false e = ap (λ bytes. lines_of (bytes ++ further)) h.parts ∙ ap lines_of (append_assoc h.used old.hand further) ∙ h.split e (old.hand ++ further)
 
 -- the lines of a text that begins with all that was taken
-pub record TextLines (text taken came hand : List ℕ) (lines : List (List ℕ)) (ended : Bool) : Type 0 where
+pub record TextLines (text read further hand : List ℕ) (lines : List (List ℕ)) (ended : Bool) : Type 0 where
   pub rest : List ℕ
   pub over : ended ≡ true → rest ≡ []
-  pub parts : lines_of text ≡ lines ++ lines_of ((hand ++ came) ++ rest)
+  pub parts : lines_of text ≡ lines ++ lines_of ((hand ++ further) ++ rest)
 
-pub text_lines : {seen : Bool} {was is : InView} {came taken : List ℕ} {packets : List (List ℕ)} {old : LinesView} → (h : GoesOn taken packets old) → Came old.hand old.ended was came seen is
-    → (text : List ℕ) → (seen ≡ true → text ≡ taken ++ came) → Begins (taken ++ came) text → TextLines text taken came old.hand h.lines seen
-text_lines {seen = seen} {came = came} {taken = taken} {old = old} h k text whole begins = by_flag seen refl
+pub text_lines : {seen : Bool} {was is : InView} {further read : List ℕ} {packets : List (List ℕ)} {old : LinesView} → (h : GoesOn read packets old) → Came old.hand old.ended was further seen is
+    → (text : List ℕ) → (seen ≡ true → text ≡ read ++ further) → Begins (read ++ further) text → TextLines text read further old.hand h.lines seen
+text_lines {seen = seen} {further = further} {read = read} {old = old} h k text whole begins = by_flag seen refl
   where
-    by_flag : (t : Bool) → seen ≡ t → TextLines text taken came old.hand h.lines seen
-    by_flag true e = record { rest = []; over = λ _. refl; parts = ap lines_of (whole e) ∙ all_lines h k ∙ ap (λ bytes. h.lines ++ lines_of bytes) (sym (append-nil (old.hand ++ came))) }
+    by_flag : (t : Bool) → seen ≡ t → TextLines text read further old.hand h.lines seen
+    by_flag true e = record { rest = []; over = λ _. refl; parts = ap lines_of (whole e) ∙ all_lines h k ∙ ap (λ bytes. h.lines ++ lines_of bytes) (sym (append-nil (old.hand ++ further))) }
     by_flag false e =
         let was = was_open k e in
-        let joined : text ≡ h.used ++ ((old.hand ++ came) ++ begins.rest) = begins.parts ∙ ap (λ bytes. (bytes ++ came) ++ begins.rest) h.parts ∙ (rw (append_assoc, append_assoc, append_assoc) refl) in
-        record { rest = begins.rest; over = λ f. absurd (cc); parts = ap lines_of joined ∙ h.split was ((old.hand ++ came) ++ begins.rest) }
+        let joined : text ≡ h.used ++ ((old.hand ++ further) ++ begins.rest) = begins.parts ∙ ap (λ bytes. (bytes ++ further) ++ begins.rest) h.parts ∙ (rw (append_assoc, append_assoc, append_assoc) refl) in
+        record { rest = begins.rest; over = λ f. absurd (cc); parts = ap lines_of joined ∙ h.split was ((old.hand ++ further) ++ begins.rest) }
 
 -- an empty line, and one with a packet, behind lines that gave these packets
 pub sound_empty : (lines : List (List ℕ)) (line : List ℕ) (packets : List (List ℕ)) → ((later : List (List ℕ)) → packets_behind [] (lines ++ later) ≡ behind packets (packets_behind lines later))
@@ -61,7 +61,7 @@ sound_packet lines line packet packets h gives some later =
     ∙ ap (behind packets) (with_packet (length lines + 1) packet next some) ∙ behind_twice packets (packet ∷ []) next
 
 -- the text has a bad line behind the lines so far
-pub has_bad : {taken : List ℕ} {packets : List (List ℕ)} {old : LinesView} → (h : GoesOn taken packets old) → (text line : List ℕ) (later : List (List ℕ)) (number : ℕ)
+pub has_bad : {read : List ℕ} {packets : List (List ℕ)} {old : LinesView} → (h : GoesOn read packets old) → (text line : List ℕ) (later : List (List ℕ)) (number : ℕ)
     → lines_of text ≡ h.lines ++ (line ∷ later) → line_gives h.lines line ≡ None → number ≡ saturated (length h.lines + 1) → HasBad packets number (packets_of text)
 unfolding packets_of packets_behind
 has_bad {packets = packets} h text line later number lines none counted = record {
@@ -72,46 +72,46 @@ has_bad {packets = packets} h text line later number lines none counted = record
 }
 
 -- the text has ended behind the lines so far
-pub has_ended : {taken : List ℕ} {packets : List (List ℕ)} {old : LinesView} → (h : GoesOn taken packets old) → (text : List ℕ) → lines_of text ≡ h.lines ++ []
+pub has_ended : {read : List ℕ} {packets : List (List ℕ)} {old : LinesView} → (h : GoesOn read packets old) → (text : List ℕ) → lines_of text ≡ h.lines ++ []
     → packets_of text ≡ record { packets = packets; ending = Ended }
 unfolding packets_of packets_behind
 has_ended {packets = packets} h text lines =
     ap (packets_behind []) lines ∙ h.sound [] ∙ ap (λ ps. let p : Packets = record { packets = ps; ending = Ended } in p) (append-nil packets)
 
 -- a line that ends with LF is used
-pub line_goes : {taken : List ℕ} {packets : List (List ℕ)} {old new : LinesView} {cnew : CutView} {was is : InView} → (h : GoesOn taken packets old) → (k : Cuts cut.Line old.hand old.ended was cnew is)
-    → new.hand ≡ cnew.hand → new.ended ≡ cnew.ended → (given : List (List ℕ))
-    → ((later : List (List ℕ)) → packets_behind [] ((h.lines ++ cnew.line ∷ []) ++ later) ≡ behind given (packets_behind (h.lines ++ cnew.line ∷ []) later))
-    → Counts (h.lines ++ cnew.line ∷ []) new → GoesOn (taken ++ k.came) given new
-line_goes {taken = taken} {old = old} {new = new} {cnew = cnew} h k hand ended given sound counts =
-    let came = k.came in
+pub line_goes : {read : List ℕ} {packets : List (List ℕ)} {old new : LinesView} {cnew : CutView} {was is : InView} → (h : GoesOn read packets old) → (k : Cuts cut.Line old.hand old.ended was cnew is)
+    → new.hand ≡ cnew.hand → new.ended ≡ cnew.ended → (packets : List (List ℕ))
+    → ((later : List (List ℕ)) → packets_behind [] ((h.lines ++ cnew.line ∷ []) ++ later) ≡ behind packets (packets_behind (h.lines ++ cnew.line ∷ []) later))
+    → Counts (h.lines ++ cnew.line ∷ []) new → GoesOn (read ++ k.further) packets new
+line_goes {read = read} {old = old} {new = new} {cnew = cnew} h k hand ended packets sound counts =
+    let further = k.further in
     let line = cnew.line in
     let lf = line ++ 10 ∷ [] in
-    let all : old.hand ++ came ≡ line ++ 10 ∷ cnew.hand = k.met in
+    let all : old.hand ++ further ≡ line ++ 10 ∷ cnew.hand = k.met in
     let clean : has_lf line ≡ false = k.clean in
     let behind_lf = λ (rest : List ℕ). append_assoc h.used lf rest ∙ ap (λ b. h.used ++ b) (append_assoc line (10 ∷ []) rest) in
     let was = λ (still : new.ended ≡ false). was_open k.reads (sym ended ∙ still) in
     record {
       lines = h.lines ++ line ∷ [];
       used = h.used ++ lf;
-      parts = ap (λ b. b ++ came) h.parts ∙ append_assoc h.used old.hand came ∙ ap (λ b. h.used ++ b) (all ∙ ap (λ b. line ++ 10 ∷ b) (sym hand)) ∙ sym (behind_lf new.hand);
+      parts = ap (λ b. b ++ further) h.parts ∙ append_assoc h.used old.hand further ∙ ap (λ b. h.used ++ b) (all ∙ ap (λ b. line ++ 10 ∷ b) (sym hand)) ∙ sym (behind_lf new.hand);
       split = λ still rest. ap lines_of (behind_lf rest) ∙ h.split (was still) (line ++ 10 ∷ rest) ∙ ap (λ ls. h.lines ++ ls) (lines_of-line line rest clean) ∙ sym (append_assoc h.lines (line ∷ []) (lines_of rest));
       full = λ still rest. ap full_lines (behind_lf rest) ∙ h.full (was still) (line ++ 10 ∷ rest) ∙ ap (λ b. h.used ++ b) (full_lines-line line rest) ∙ sym (append_assoc h.used lf (full_lines rest));
       over = λ e. all_lines h k.reads ∙ ap (λ b. h.lines ++ lines_of b) (all ∙ ap (λ b. line ++ 10 ∷ b) (sym hand)) ∙ ap (λ ls. h.lines ++ ls) (lines_of-line line new.hand clean) ∙ sym (append_assoc h.lines (line ∷ []) (lines_of new.hand));
       sound = sound;
       number = counts.number;
       empty = counts.empty;
-      blocks = λ still. rw (length-append taken came) (let a = h.blocks (was still) in let b = k.reads.blocks (sym ended ∙ still) in omega arith);
+      blocks = λ still. rw (length-append read further) (let a = h.blocks (was still) in let b = k.reads.blocks (sym ended ∙ still) in omega arith);
     }
 
 -- a last line without LF is used
-pub last_goes : {taken : List ℕ} {packets : List (List ℕ)} {old new : LinesView} {cnew : CutView} {was is : InView} → (h : GoesOn taken packets old) → (k : Cuts cut.Last old.hand old.ended was cnew is)
-    → new.hand ≡ cnew.hand → new.ended ≡ cnew.ended → (given : List (List ℕ))
-    → ((later : List (List ℕ)) → packets_behind [] ((h.lines ++ cnew.line ∷ []) ++ later) ≡ behind given (packets_behind (h.lines ++ cnew.line ∷ []) later))
-    → Counts (h.lines ++ cnew.line ∷ []) new → GoesOn (taken ++ k.came) given new
+pub last_goes : {read : List ℕ} {packets : List (List ℕ)} {old new : LinesView} {cnew : CutView} {was is : InView} → (h : GoesOn read packets old) → (k : Cuts cut.Last old.hand old.ended was cnew is)
+    → new.hand ≡ cnew.hand → new.ended ≡ cnew.ended → (packets : List (List ℕ))
+    → ((later : List (List ℕ)) → packets_behind [] ((h.lines ++ cnew.line ∷ []) ++ later) ≡ behind packets (packets_behind (h.lines ++ cnew.line ∷ []) later))
+    → Counts (h.lines ++ cnew.line ∷ []) new → GoesOn (read ++ k.further) packets new
 unfolding lines_of
-last_goes {taken = taken} {old = old} {new = new} {cnew = cnew} h k hand ended given sound counts =
-    let came = k.came in
+last_goes {read = read} {old = old} {new = new} {cnew = cnew} h k hand ended packets sound counts =
+    let further = k.further in
     let line = cnew.line in
     let last = k.met in
     let none : new.hand ≡ [] = hand ∙ last.1 in
@@ -119,8 +119,8 @@ last_goes {taken = taken} {old = old} {new = new} {cnew = cnew} h k hand ended g
     let clean : has_lf line ≡ false = k.clean in
     record {
       lines = h.lines ++ line ∷ [];
-      used = taken ++ came;
-      parts = rw none (sym (append-nil (taken ++ came)));
+      used = read ++ further;
+      parts = rw none (sym (append-nil (read ++ further)));
       split = λ still rest. absurd (cc);
       full = λ still rest. absurd (cc);
       over = λ e. all_lines h k.reads ∙ ap (λ b. h.lines ++ lines_of b) last.0 ∙ ap (λ ls. h.lines ++ ls) (lines_of-last line clean last.3) ∙ rw none (sym (append-nil (h.lines ++ line ∷ [])));

@@ -31,17 +31,17 @@ fresh_goes = record {
 }
 
 -- the packets so far are the first ones of each text that there may be
-pub goes_told : (taken : List ℕ) (packets : List (List ℕ)) (view : LinesView) → GoesOn taken packets view → (text : List ℕ) → may_be view.ended line.Packet taken text → GoesOnWith packets (packets_of text)
+pub goes_told : (read : List ℕ) (packets : List (List ℕ)) (view : LinesView) → GoesOn read packets view → (text : List ℕ) → may_be view.ended line.Packet read text → GoesOnWith packets (packets_of text)
 unfolding packets_of
-goes_told taken packets view h text may = by_flag view.ended refl may
+goes_told read packets view h text may = by_flag view.ended refl may
   where
     by_lines : (ls : List (List ℕ)) → lines_of text ≡ h.lines ++ ls → GoesOnWith packets (packets_behind [] (lines_of text))
     by_lines ls e = record { later = packets_behind h.lines ls; parts = ap (packets_behind []) e ∙ h.sound ls }
 
-    by_flag : (t : Bool) → view.ended ≡ t → may_be t line.Packet taken text → GoesOnWith packets (packets_behind [] (lines_of text))
+    by_flag : (t : Bool) → view.ended ≡ t → may_be t line.Packet read text → GoesOnWith packets (packets_behind [] (lines_of text))
     by_flag true e is = by_lines (lines_of view.hand) (ap lines_of is ∙ h.over e)
     by_flag false e begins =
-        let used : full_lines taken ≡ h.used ++ full_lines view.hand = ap full_lines h.parts ∙ h.full e view.hand in
+        let used : full_lines read ≡ h.used ++ full_lines view.hand = ap full_lines h.parts ∙ h.full e view.hand in
         let rest = full_lines view.hand ++ begins.rest in
         by_lines (lines_of rest) (ap lines_of (begins.parts ∙ ap (λ b. b ++ begins.rest) used ∙ append_assoc h.used (full_lines view.hand) begins.rest) ∙ h.split e rest)
 
@@ -60,13 +60,13 @@ fresh_stands first view e = rw e (record {
   goes = λ _. fresh_goes;
   told = λ text may. goes_told [] [] fresh_lines fresh_goes text may;
   shown = λ n f still. absurd (cc);
-  read = fresh_read;
+  needed = fresh_read;
   near = λ _. omega arith;
 })
 
 -- the answer is no part of what goes on
-same_goes : (taken : List ℕ) (packets : List (List ℕ)) (view : LinesView) (r : Found) → GoesOn taken packets view → GoesOn taken packets (with_answer r view)
-same_goes taken packets view r h = record {
+same_goes : (read : List ℕ) (packets : List (List ℕ)) (view : LinesView) (r : Found) → GoesOn read packets view → GoesOn read packets (with_answer r view)
+same_goes read packets view r h = record {
   lines = h.lines;
   used = h.used;
   parts = h.parts;
@@ -80,36 +80,36 @@ same_goes taken packets view r h = record {
 }
 
 -- a text that there may be after an answer there might be before
-earlier_begins : (taken came text : List ℕ) → Begins (taken ++ came) text → Begins (full_lines taken) text
-earlier_begins taken came text b =
-    let f = full_lines-front taken in
-    record { rest = f.rest ++ (came ++ b.rest); parts = b.parts ∙ append_assoc taken came b.rest ∙ ap (λ bytes. bytes ++ (came ++ b.rest)) f.parts ∙ append_assoc (full_lines taken) f.rest (came ++ b.rest) }
+earlier_begins : (read further text : List ℕ) → Begins (read ++ further) text → Begins (full_lines read) text
+earlier_begins read further text b =
+    let f = full_lines-front read in
+    record { rest = f.rest ++ (further ++ b.rest); parts = b.parts ∙ append_assoc read further b.rest ∙ ap (λ bytes. bytes ++ (further ++ b.rest)) f.parts ∙ append_assoc (full_lines read) f.rest (further ++ b.rest) }
 
-earlier_full : (taken came text : List ℕ) → Begins (full_lines (taken ++ came)) text → Begins (full_lines taken) text
-earlier_full taken came text b =
-    let f = full_lines-more taken came in
-    record { rest = f.rest ++ b.rest; parts = b.parts ∙ ap (λ bytes. bytes ++ b.rest) f.parts ∙ append_assoc (full_lines taken) f.rest b.rest }
+earlier_full : (read further text : List ℕ) → Begins (full_lines (read ++ further)) text → Begins (full_lines read) text
+earlier_full read further text b =
+    let f = full_lines-more read further in
+    record { rest = f.rest ++ b.rest; parts = b.parts ∙ ap (λ bytes. bytes ++ b.rest) f.parts ∙ append_assoc (full_lines read) f.rest b.rest }
 
-earlier_dead : (taken came text : List ℕ) → length taken % 4096 ≡ 0 → text ≡ text_of_dead (taken ++ came) → Begins (full_lines taken) text
-earlier_dead taken came text blocks e =
-    let w = whole_blocks-more taken came blocks in
-    let f = full_lines-more taken w.rest in
+earlier_dead : (read further text : List ℕ) → length read % 4096 ≡ 0 → text ≡ text_of_dead (read ++ further) → Begins (full_lines read) text
+earlier_dead read further text blocks e =
+    let w = whole_blocks-more read further blocks in
+    let f = full_lines-more read w.rest in
     record { rest = f.rest; parts = e ∙ ap full_lines w.parts ∙ f.parts }
 
-earlier_open : (taken came text : List ℕ) (ended : Bool) (a : Line) → (a ≡ line.End → ended ≡ true) → length taken % 4096 ≡ 0 → may_be ended a (taken ++ came) text → Begins (full_lines taken) text
-earlier_open taken came text true a f blocks may = earlier_begins taken came text (record { rest = []; parts = may ∙ sym (append-nil (taken ++ came)) })
-earlier_open taken came text false line.Packet f blocks may = earlier_full taken came text may
-earlier_open taken came text false (line.Bad n) f blocks may = earlier_begins taken came text may
-earlier_open taken came text false line.End f blocks may = absurd (let e = f refl in cc)
-earlier_open taken came text false line.Lost f blocks may = earlier_dead taken came text blocks may
+earlier_open : (read further text : List ℕ) (ended : Bool) (a : Line) → (a ≡ line.End → ended ≡ true) → length read % 4096 ≡ 0 → may_be ended a (read ++ further) text → Begins (full_lines read) text
+earlier_open read further text true a f blocks may = earlier_begins read further text (record { rest = []; parts = may ∙ sym (append-nil (read ++ further)) })
+earlier_open read further text false line.Packet f blocks may = earlier_full read further text may
+earlier_open read further text false (line.Bad n) f blocks may = earlier_begins read further text may
+earlier_open read further text false line.End f blocks may = absurd (let e = f refl in cc)
+earlier_open read further text false line.Lost f blocks may = earlier_dead read further text blocks may
 
-same_text : (b : Bool) (a : Line) (taken came text : List ℕ) → b ≡ true → came ≡ [] → may_be b a (taken ++ came) text → text ≡ taken
-same_text true a taken came text e none may = may ∙ ap (λ bytes. taken ++ bytes) none ∙ append-nil taken
-same_text false a taken came text e none may = absurd (cc)
+same_text : (b : Bool) (a : Line) (read further text : List ℕ) → b ≡ true → further ≡ [] → may_be b a (read ++ further) text → text ≡ read
+same_text true a read further text e none may = may ∙ ap (λ bytes. read ++ bytes) none ∙ append-nil read
+same_text false a read further text e none may = absurd (cc)
 
-before_open : (ended : Bool) (taken text : List ℕ) → (ended ≡ true → text ≡ taken) → (ended ≡ false → Begins (full_lines taken) text) → may_be ended line.Packet taken text
-before_open true taken text f g = f refl
-before_open false taken text f g = g refl
+before_open : (ended : Bool) (read text : List ℕ) → (ended ≡ true → text ≡ read) → (ended ≡ false → Begins (full_lines read) text) → may_be ended line.Packet read text
+before_open true read text f g = f refl
+before_open false read text f g = g refl
 
 -- less than a block is in hand
 take_few : (n : ℕ) (xs : List ℕ) → length (take n xs) ≤ n
@@ -133,7 +133,7 @@ packet_stands first is all packets new r g near = record {
   goes = λ _. same_goes all (packets ++ new.packet ∷ []) new found.Packet g;
   told = λ text may. goes_told all (packets ++ new.packet ∷ []) new g text may;
   shown = λ n e still. absurd (cc);
-  read = rw (length-append packets (new.packet ∷ [])) r.read;
+  needed = rw (length-append packets (new.packet ∷ [])) r.needed;
   near = λ _. near;
 }
 
@@ -150,7 +150,7 @@ bad_stands first is all packets new r bad shows = rw (append-nil packets) (recor
   goes = λ e. absurd (cc);
   told = λ text may. bad text (whole new.ended text may) (begins new.ended text may);
   shown = λ n e still. shows still;
-  read = r.read;
+  needed = r.needed;
   near = λ e. absurd (cc);
 })
   where
@@ -174,7 +174,7 @@ end_stands first is all packets new r over whole = rw (append-nil packets) (reco
   goes = λ e. absurd (cc);
   told = λ text may. ap packets_of (all_ended new.ended text may) ∙ whole;
   shown = λ n e still. absurd (cc);
-  read = r.read;
+  needed = r.needed;
   near = λ e. absurd (cc);
 })
   where
@@ -184,7 +184,7 @@ end_stands first is all packets new r over whole = rw (append-nil packets) (reco
 
 pub lost_stands : (first is : InView) (all : List ℕ) (packets : List (List ℕ)) (new : LinesView) → Gave first all is → is.ended ≡ first.ended → first.state ≡ Live → is.state ≡ Dead → new.ended ≡ false
     → packets_of (text_of_dead all) ≡ record { packets = packets; ending = Ended } → ReadAsNeeded true (length packets + 1) all → LinesStand first is all (packets ++ []) (with_answer found.Lost new)
-lost_stands first is all packets new gave same live dead still whole read = rw (append-nil packets) (record {
+lost_stands first is all packets new gave same live dead still whole needed = rw (append-nil packets) (record {
   gave = gave;
   over = λ e. absurd (cc);
   unended = λ _. same;
@@ -194,7 +194,7 @@ lost_stands first is all packets new gave same live dead still whole read = rw (
   goes = λ e. absurd (cc);
   told = λ text may. ap packets_of (all_lost new.ended still text may) ∙ whole;
   shown = λ n e open_yet. absurd (cc);
-  read = read;
+  needed = needed;
   near = λ e. absurd (cc);
 })
   where
@@ -203,34 +203,34 @@ lost_stands first is all packets new gave same live dead still whole read = rw (
     all_lost false e text may = may
 
 -- behind an answer Packet one packet more is sought
-seeks_on : {first was : InView} {taken : List ℕ} {packets : List (List ℕ)} {old : LinesView} → old.answer ≡ line.Packet → LinesStand first was taken packets old → Seeks first taken packets old was
-seeks_on {taken = taken} {packets = packets} {old = old} going h =
-    let P : Line → Type 0 = λ a. ReadAsNeeded (came_short old.ended a) (asked_for a (length packets)) taken in
-    let read : ReadAsNeeded old.ended (length packets) taken = subst P going h.read in
+seeks_on : {first was : InView} {read : List ℕ} {packets : List (List ℕ)} {old : LinesView} → old.answer ≡ line.Packet → LinesStand first was read packets old → Seeks first read packets old was
+seeks_on {read = read} {packets = packets} {old = old} going h =
+    let P : Line → Type 0 = λ a. ReadAsNeeded (came_short old.ended a) (asked_for a (length packets)) read in
+    let needed : ReadAsNeeded old.ended (length packets) read = subst P going h.needed in
     record {
-      reaches = record { gave = h.gave; over = h.over; unended = h.unended; alive = h.alive (λ e. let p = going in cc); read = more_asked old.ended (length packets) (length packets + 1) taken (omega arith) read };
+      reaches = record { gave = h.gave; over = h.over; unended = h.unended; alive = h.alive (λ e. let p = going in cc); needed = more_asked old.ended (length packets) (length packets + 1) read (omega arith) needed };
       goes = h.goes going;
     }
 
 -- what was found makes the answer
-pub take_stands : (r : Found) (first : InView) (taken : List ℕ) (packets : List (List ℕ)) (old mid : LinesView) (was is : InView) → old.answer ≡ line.Packet → r ≢ found.Empty
-    → (Seeks first taken packets old was → Finds r first taken packets old mid is) → LinesStand first was taken packets old → TakeStands first taken packets old (with_answer r mid) is
-take_stands r first taken packets old mid was is going counts finds h =
+pub take_stands : (r : Found) (first : InView) (read : List ℕ) (packets : List (List ℕ)) (old mid : LinesView) (was is : InView) → old.answer ≡ line.Packet → r ≢ found.Empty
+    → (Seeks first read packets old was → Finds r first read packets old mid is) → LinesStand first was read packets old → TakeStands first read packets old (with_answer r mid) is
+take_stands r first read packets old mid was is going counts finds h =
     let f = finds (seeks_on going h) in
-    let came = f.came in
+    let further = f.further in
     let stands = f.stands counts in
-    let P : Line → Type 0 = λ a. LinesStand first is (taken ++ came) (packets ++ (if is_packet a then given_by (answer_of r mid.number) mid.packet else [])) (with_answer r mid) in
+    let P : Line → Type 0 = λ a. LinesStand first is (read ++ further) (packets ++ (if is_packet a then given_by (answer_of r mid.number) mid.packet else [])) (with_answer r mid) in
     record {
-      came = came;
+      further = further;
       stands = subst P (sym going) stands;
-      earlier = λ text may. (let Q : Line → Type 0 = λ a. may_be old.ended a taken text in subst Q (sym going) (before_open old.ended taken text
-          (λ e. let q = f.quiet e in same_text mid.ended (answer_of r mid.number) taken came text q.1 q.0 may)
-          (λ e. earlier_open taken came text mid.ended (answer_of r mid.number) stands.ended ((h.goes going).blocks e) may)));
+      earlier = λ text may. (let Q : Line → Type 0 = λ a. may_be old.ended a read text in subst Q (sym going) (before_open old.ended read text
+          (λ e. let q = f.quiet e in same_text mid.ended (answer_of r mid.number) read further text q.1 q.0 may)
+          (λ e. earlier_open read further text mid.ended (answer_of r mid.number) stands.ended ((h.goes going).blocks e) may)));
     }
 
 -- a place that is dead has answered no end
-pub died_unended : (first now : InView) (taken : List ℕ) (packets : List (List ℕ)) (view : LinesView) → LinesStand first now taken packets view → DiedUnended first now
-died_unended first now taken packets view h dead = by_answer view.answer refl
+pub died_unended : (first now : InView) (read : List ℕ) (packets : List (List ℕ)) (view : LinesView) → LinesStand first now read packets view → DiedUnended first now
+died_unended first now read packets view h dead = by_answer view.answer refl
   where
     stays : view.answer ≢ line.Lost → now.ended ≡ first.ended
     stays other = ap (λ place. place.ended) (h.gave.idle (λ live. dead_not_live (sym dead ∙ h.alive other ∙ live))).0
@@ -242,11 +242,11 @@ died_unended first now taken packets view h dead = by_answer view.answer refl
     by_answer line.Lost e = h.unended (h.lost e).0
 
 -- the last answer is given again
-pub still_stands : (first now : InView) (taken : List ℕ) (packets : List (List ℕ)) (view : LinesView) → view.answer ≢ line.Packet → LinesStand first now taken packets view → TakeStands first taken packets view view now
-still_stands first now taken packets view over h = record {
-  came = [];
-  stands = rw (by_answer view.answer over, append-nil taken, append-nil packets) h;
-  earlier = λ text may. rw (append-nil taken) at may;
+pub still_stands : (first now : InView) (read : List ℕ) (packets : List (List ℕ)) (view : LinesView) → view.answer ≢ line.Packet → LinesStand first now read packets view → TakeStands first read packets view view now
+still_stands first now read packets view over h = record {
+  further = [];
+  stands = rw (by_answer view.answer over, append-nil read, append-nil packets) h;
+  earlier = λ text may. rw (append-nil read) at may;
 }
   where
     by_answer : (a : Line) → a ≢ line.Packet → is_packet a ≡ false

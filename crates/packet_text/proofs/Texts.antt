@@ -101,21 +101,21 @@ unfolding full_lines
 full_lines-more [] b = record { rest = full_lines b; parts = refl }
 full_lines-more (x ∷ xs) b = more_if (has_lf (x ∷ xs)) (has_lf (x ∷ (xs ++ b))) x (full_lines xs) (full_lines (xs ++ b)) (has_lf-more (x ∷ xs) b) (full_lines-more xs b)
 
-front_take : (whole came : List ℕ) (m : ℕ) → length whole ≤ m → Front whole (take m (whole ++ came))
-front_take whole came m fits =
+front_take : (whole further : List ℕ) (m : ℕ) → length whole ≤ m → Front whole (take m (whole ++ further))
+front_take whole further m fits =
     let n = length whole in
     let all : m ≡ n + (m - n) = omega arith in
     record {
-      rest = take (m - n) came;
-      parts = ap (λ k. take k (whole ++ came)) all ∙ take-add n (m - n) (whole ++ came) ∙ ap (λ bytes. bytes ++ take (m - n) (drop n (whole ++ came))) (take_at whole came n refl)
-          ∙ ap (λ bytes. whole ++ take (m - n) bytes) (drop_at whole came n refl);
+      rest = take (m - n) further;
+      parts = ap (λ k. take k (whole ++ further)) all ∙ take-add n (m - n) (whole ++ further) ∙ ap (λ bytes. bytes ++ take (m - n) (drop n (whole ++ further))) (take_at whole further n refl)
+          ∙ ap (λ bytes. whole ++ take (m - n) bytes) (drop_at whole further n refl);
     }
 
-pub whole_blocks-more : (whole came : List ℕ) → length whole % 4096 ≡ 0 → Front whole (whole_blocks (whole ++ came))
+pub whole_blocks-more : (whole further : List ℕ) → length whole % 4096 ≡ 0 → Front whole (whole_blocks (whole ++ further))
 unfolding whole_blocks
-whole_blocks-more whole came blocks =
-    let size : length (whole ++ came) ≡ length whole + length came = length-append whole came in
-    front_take whole came (4096 * (length (whole ++ came) / 4096)) (rw size (omega arith))
+whole_blocks-more whole further blocks =
+    let size : length (whole ++ further) ≡ length whole + length further = length-append whole further in
+    front_take whole further (4096 * (length (whole ++ further) / 4096)) (rw size (omega arith))
 
 pub whole_blocks-part : (whole part : List ℕ) → length whole % 4096 ≡ 0 → length part < 4096 → whole_blocks (whole ++ part) ≡ whole
 unfolding whole_blocks

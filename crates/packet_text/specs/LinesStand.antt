@@ -41,15 +41,15 @@ pub record Begins (bytes text : List ℕ) : Type 0 where
 -- while nothing is decided, any text that begins with their whole lines; behind a bad line anything; and of a place
 -- that died, what is left of it.
 abbrev pub may_be : Bool → Line → List ℕ → List ℕ → Type 0
-may_be true answer taken text = text ≡ taken
-may_be false Packet taken text = Begins (full_lines taken) text
-may_be false (Bad n) taken text = Begins taken text
-may_be false End taken text = text ≡ taken
-may_be false Lost taken text = text ≡ text_of_dead taken
+may_be true answer read text = text ≡ read
+may_be false Packet read text = Begins (full_lines read) text
+may_be false (Bad n) read text = Begins read text
+may_be false End read text = text ≡ read
+may_be false Lost read text = text ≡ text_of_dead read
 
 -- the same by what is seen of the lines
 abbrev pub MayBe : LinesView → List ℕ → List ℕ → Type 0
-MayBe view taken text = may_be view.ended view.answer taken text
+MayBe view read text = may_be view.ended view.answer read text
 
 -- these packets are the first of a text's
 pub record GoesOnWith (packets : List (List ℕ)) (text : Packets) : Type 0 where
@@ -70,17 +70,17 @@ Told (Bad n) packets text = HasBad packets n text
 Told Lost packets text = text ≡ record { packets = packets; ending = Ended }
 
 -- The lines so far, which gave these packets, are used; the rest of what was taken is in hand.
-pub record GoesOn (taken : List ℕ) (packets : List (List ℕ)) (view : LinesView) : Type 0 where
+pub record GoesOn (read : List ℕ) (packets : List (List ℕ)) (view : LinesView) : Type 0 where
   pub lines : List (List ℕ)
   pub used : List ℕ
-  pub parts : taken ≡ used ++ view.hand
+  pub parts : read ≡ used ++ view.hand
   pub split : view.ended ≡ false → (rest : List ℕ) → lines_of (used ++ rest) ≡ lines ++ lines_of rest
   pub full : view.ended ≡ false → (rest : List ℕ) → full_lines (used ++ rest) ≡ used ++ full_lines rest
-  pub over : view.ended ≡ true → lines_of taken ≡ lines ++ lines_of view.hand
+  pub over : view.ended ≡ true → lines_of read ≡ lines ++ lines_of view.hand
   pub sound : (later : List (List ℕ)) → packets_behind [] (lines ++ later) ≡ behind packets (packets_behind lines later)
   pub number : view.number ≡ saturated (length lines)
   pub empty : view.empty ≡ empty_lines lines
-  pub blocks : view.ended ≡ false → length taken % 4096 ≡ 0
+  pub blocks : view.ended ≡ false → length read % 4096 ≡ 0
 
 -- whether the last read came short, at the place's end or its death
 abbrev pub came_short : Bool → Line → Bool
@@ -90,41 +90,41 @@ came_short ended (Bad n) = ended
 came_short ended Lost = true
 
 -- how many packets were asked for, when these were given: once there is no more packet, one more
-abbrev pub asked_for : Line → (given : ℕ) → ℕ
-asked_for Packet given = given
-asked_for End given = given + 1
-asked_for (Bad n) given = given + 1
-asked_for Lost given = given + 1
+abbrev pub asked_for : Line → (packets : ℕ) → ℕ
+asked_for Packet packets = packets
+asked_for End packets = packets + 1
+asked_for (Bad n) packets = packets + 1
+asked_for Lost packets = packets + 1
 
 -- How these bytes were read, when so many packets were asked for: by blocks of 4,096 bytes, but for a last read that
 -- came short. The last read was needed: what was taken before it shows no bad line, and its whole lines have fewer
 -- packets.
-pub record ReadAsNeeded (short : Bool) (asked : ℕ) (taken : List ℕ) : Type 0 where
+pub record ReadAsNeeded (short : Bool) (asked : ℕ) (read : List ℕ) : Type 0 where
   pub before : List ℕ
   pub last : List ℕ
-  pub parts : taken ≡ before ++ last
+  pub parts : read ≡ before ++ last
   pub blocks : length before % 4096 ≡ 0
   pub most : length last ≤ 4096
   pub whole : short ≡ false → length last % 4096 ≡ 0
   pub part : short ≡ true → length last < 4096
   pub needed : shows_bad before ≡ false
-  pub fewer : (taken ≡ []) ⊎ (length (packets_of (full_lines before)).packets < asked)
+  pub fewer : (read ≡ []) ⊎ (length (packets_of (full_lines before)).packets < asked)
 
 -- `first` and `now` are views of a place, between which these bytes were taken, and these packets given: whatever text
 -- it may turn out to have, they are its first packets, and the last answer is right. Before the end is seen no line is
 -- found bad but where the bytes that were taken show it, and then nothing more is read. While packets come less than a
 -- block is in hand. Where the end was not seen, the place has answered none: so nothing is asked of it behind its end.
-pub record LinesStand (first now : InView) (taken : List ℕ) (packets : List (List ℕ)) (view : LinesView) : Type 0 where
-  pub gave : Gave first taken now
+pub record LinesStand (first now : InView) (read : List ℕ) (packets : List (List ℕ)) (view : LinesView) : Type 0 where
+  pub gave : Gave first read now
   pub over : view.ended ≡ true → now.state ≡ Live → HasEnded now.left now.ended
   pub unended : view.ended ≡ false → now.ended ≡ first.ended
   pub alive : view.answer ≢ Lost → now.state ≡ first.state
   pub ended : view.answer ≡ End → view.ended ≡ true
   pub lost : view.answer ≡ Lost → (view.ended ≡ false) × (now.state ≡ Dead) × (first.state ≡ Live)
-  pub goes : view.answer ≡ Packet → GoesOn taken packets view
-  pub told : (text : List ℕ) → MayBe view taken text → Told view.answer packets (packets_of text)
-  pub shown : (n : ℕ) → view.answer ≡ Bad n → view.ended ≡ false → shows_bad taken ≡ true
-  pub read : ReadAsNeeded (came_short view.ended view.answer) (asked_for view.answer (length packets)) taken
+  pub goes : view.answer ≡ Packet → GoesOn read packets view
+  pub told : (text : List ℕ) → MayBe view read text → Told view.answer packets (packets_of text)
+  pub shown : (n : ℕ) → view.answer ≡ Bad n → view.ended ≡ false → shows_bad read ≡ true
+  pub needed : ReadAsNeeded (came_short view.ended view.answer) (asked_for view.answer (length packets)) read
   pub near : view.answer ≡ Packet → length view.hand < 4096
 
 -- what the lines of a place are before anything was read
@@ -147,9 +147,9 @@ is_packet Lost = false
 
 -- after an answer: more bytes were taken, there is a packet more where it is Packet, and a text that the place may have
 -- from then on it might have before
-pub record TakeStands (first : InView) (taken : List ℕ) (packets : List (List ℕ)) (old new : LinesView)
+pub record TakeStands (first : InView) (read : List ℕ) (packets : List (List ℕ)) (old new : LinesView)
     (now : InView) : Type 0 where
-  pub came : List ℕ
-  pub stands : LinesStand first now (taken ++ came)
+  pub further : List ℕ
+  pub stands : LinesStand first now (read ++ further)
       (packets ++ (if is_packet old.answer then given_by new.answer new.packet else [])) new
-  pub earlier : (text : List ℕ) → MayBe new (taken ++ came) text → MayBe old taken text
+  pub earlier : (text : List ℕ) → MayBe new (read ++ further) text → MayBe old read text

@@ -76,9 +76,9 @@ impl PacketLines {
     /// read.
     pub fn take<P: Source>(&mut self, place: &mut InPlaceOf<P>) -> Line
         ensures answer { (lines_view self.new).answer ≡ result }
-        ensures stands { (first : InView) (taken : List ℕ) (packets : List (List ℕ))
-            → LinesStand first (in_view P.Source place.old) taken packets (lines_view self.old)
-            → TakeStands first taken packets (lines_view self.old) (lines_view self.new) (in_view P.Source place.new) }
+        ensures stands { (first : InView) (read : List ℕ) (packets : List (List ℕ))
+            → LinesStand first (in_view P.Source place.old) read packets (lines_view self.old)
+            → TakeStands first read packets (lines_view self.old) (lines_view self.new) (in_view P.Source place.new) }
 
         // Lost comes only where the place died in this call
         ensures lost { result ≡ Line.Lost → (lines_view self.old).answer ≡ Line.Packet
@@ -120,9 +120,9 @@ impl PacketLines {
 
     // The next line.
     fn find<P: Source>(&mut self, place: &mut InPlaceOf<P>) -> Found
-        ensures finds { (first : InView) (taken : List ℕ) (packets : List (List ℕ))
-            → Seeks first taken packets (lines_view self.old) (in_view P.Source place.old)
-            → Finds result first taken packets (lines_view self.old) (lines_view self.new)
+        ensures finds { (first : InView) (read : List ℕ) (packets : List (List ℕ))
+            → Seeks first read packets (lines_view self.old) (in_view P.Source place.old)
+            → Finds result first read packets (lines_view self.old) (lines_view self.new)
             (in_view P.Source place.new) }
         ensures rises { result ≡ Found.Empty → self.new.empty ≡ self.old.empty + 1 }
         ensures some { result ≡ Found.Packet → 1 ≤ self.new.len }

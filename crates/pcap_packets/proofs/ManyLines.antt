@@ -167,7 +167,7 @@ gathered_next bytes old new done (suc n) g none some = gathered_more bytes old n
 
 -- ---- where a part of the records ends
 
-pub record Within (all : List (List ℕ)) (text : List ℕ) (went done left : ℕ) : Type 0 where
+pub record Within (all : List (List ℕ)) (text : List ℕ) (written done left : ℕ) : Type 0 where
   pub lines : List (List ℕ)
   pub later : List (List ℕ)
   pub are : all ≡ lines ++ later
@@ -175,11 +175,11 @@ pub record Within (all : List (List ℕ)) (text : List ℕ) (went done left : �
   pub behind : drop done text ≡ lines_text later
   pub good : are_lines lines ≡ true
   pub rest : are_lines later ≡ true
-  pub size : went ≡ length (lines_records lines) + left
+  pub size : written ≡ length (lines_records lines) + left
   pub less : left < length (lines_records later)
 
-pub within_start : (all : List (List ℕ)) (text : List ℕ) (went : ℕ) → IsCut all text went → Within all text went 0 went
-within_start all text went c = record {
+pub within_start : (all : List (List ℕ)) (text : List ℕ) (written : ℕ) → IsCut all text written → Within all text written 0 written
+within_start all text written c = record {
   lines = [];
   later = all;
   are = refl;
@@ -216,23 +216,23 @@ next_line (d ∷ ds) text left less good is =
       front = ap digits_in_front same ∙ line_digits d (lines_text ds) (whole_line-is d parts.0).lower;
     }
 
-next_of : (all : List (List ℕ)) (text : List ℕ) (went done left : ℕ) (w : Within all text went done left) → NextLine w.later (drop done text)
-next_of all text went done left w = next_line w.later (drop done text) left w.less w.rest w.behind
+next_of : (all : List (List ℕ)) (text : List ℕ) (written done left : ℕ) (w : Within all text written done left) → NextLine w.later (drop done text)
+next_of all text written done left w = next_line w.later (drop done text) left w.less w.rest w.behind
 
 -- there is room for it in the text
-pub next_room : (all : List (List ℕ)) (text : List ℕ) (went done left digits : ℕ) → Within all text went done left → digits ≡ digits_in_front (drop done text) → (0 < digits) × (done + (digits + 1) ≤ length text)
-next_room all text went done left digits w is =
-    let n = next_of all text went done left w in
+pub next_room : (all : List (List ℕ)) (text : List ℕ) (written done left digits : ℕ) → Within all text written done left → digits ≡ digits_in_front (drop done text) → (0 < digits) × (done + (digits + 1) ≤ length text)
+next_room all text written done left digits w is =
+    let n = next_of all text written done left w in
     let size = ap length n.is ∙ length-append n.digits (10 ∷ lines_text n.more) in
     let count : digits ≡ length n.digits = is ∙ n.front in
     let some = (whole_line-is n.digits n.whole).some in
     let behind = length-drop done text in
     (omega (arith, some, count), omega (arith, size, count, behind))
 
-pub walk_on : (all : List (List ℕ)) (text : List ℕ) (went done left digits : ℕ) → Within all text went done left → digits ≡ digits_in_front (drop done text) → 16 + digits / 2 ≤ left
-    → Within all text went (done + (digits + 1)) (left - (16 + digits / 2))
-walk_on all text went done left digits w is enough =
-    let n = next_of all text went done left w in
+pub walk_on : (all : List (List ℕ)) (text : List ℕ) (written done left digits : ℕ) → Within all text written done left → digits ≡ digits_in_front (drop done text) → 16 + digits / 2 ≤ left
+    → Within all text written (done + (digits + 1)) (left - (16 + digits / 2))
+walk_on all text written done left digits w is enough =
+    let n = next_of all text written done left w in
     let d = n.digits in
     let count : digits ≡ length d = is ∙ n.front in
     let one : d ++ 10 ∷ lines_text n.more ≡ (d ++ 10 ∷ []) ++ lines_text n.more = sym (append_assoc d (10 ∷ []) (lines_text n.more)) in
@@ -260,9 +260,9 @@ walk_on all text went done left digits w is enough =
       less = omega (arith, old_less, later_size, record_size, half, enough);
     }
 
-pub walk_end : (all : List (List ℕ)) (text : List ℕ) (went done left digits : ℕ) → Within all text went done left → digits ≡ digits_in_front (drop done text) → left < 16 + digits / 2 → StopsAt all text went done left
-walk_end all text went done left digits w is less =
-    let n = next_of all text went done left w in
+pub walk_end : (all : List (List ℕ)) (text : List ℕ) (written done left digits : ℕ) → Within all text written done left → digits ≡ digits_in_front (drop done text) → left < 16 + digits / 2 → StopsAt all text written done left
+walk_end all text written done left digits w is less =
+    let n = next_of all text written done left w in
     let count : digits ≡ length n.digits = is ∙ n.front in
     let half : digits / 2 ≡ length n.digits / 2 = ap (λ k. k / 2) count in
     let size = length-line_record n.digits n.whole in
@@ -288,8 +288,8 @@ pub record InHand (text digits : List ℕ) (done count : ℕ) : Type 0 where
   pub some : 0 < count
   pub room : done + (count + 1) ≤ length text
 
-pub in_hand : (all : List (List ℕ)) (text : List ℕ) (went done left count : ℕ) (s : StopsAt all text went done left) → count ≡ digits_in_front (drop done text) → InHand text s.digits done count
-in_hand all text went done left count s is =
+pub in_hand : (all : List (List ℕ)) (text : List ℕ) (written done left count : ℕ) (s : StopsAt all text written done left) → count ≡ digits_in_front (drop done text) → InHand text s.digits done count
+in_hand all text written done left count s is =
     let d = s.digits in
     let w = whole_line-is d s.line in
     let parts : drop done text ≡ d ++ (10 ∷ lines_text s.later) = s.behind ∙ text_first d s.later in
@@ -305,10 +305,10 @@ in_hand all text went done left count s is =
       room = omega (arith, size, behind, front);
     }
 
-pub part_went : (all : List (List ℕ)) (text line rest : List ℕ) (went done left count : ℕ) (s : StopsAt all text went done left) → count ≡ digits_in_front (drop done text) → line ≡ take count (drop done text)
-    → rest ≡ drop left (record_of (packet_of line)) → PartWent (take (done + count) text) (take went (lines_records all)) line rest
-part_went all text line rest went done left count s is is_line rest_is =
-    let h = in_hand all text went done left count s is in
+pub part_went : (all : List (List ℕ)) (text line rest : List ℕ) (written done left count : ℕ) (s : StopsAt all text written done left) → count ≡ digits_in_front (drop done text) → line ≡ take count (drop done text)
+    → rest ≡ drop left (record_of (packet_of line)) → PartWent (take (done + count) text) (take written (lines_records all)) line rest
+part_went all text line rest written done left count s is is_line rest_is =
+    let h = in_hand all text written done left count s is in
     let d = s.digits in
     let same : line ≡ d = is_line ∙ h.is in
     let whole = record_of (packet_of d) in
@@ -322,14 +322,14 @@ part_went all text line rest went done left count s is is_line rest_is =
       line = rw same s.line;
       is = take-add done count text ∙ ap (λ l. l ++ take count (drop done text)) s.before ∙ ap (λ l. lines_text s.lines ++ l) (sym is_line);
       part = take left whole;
-      gone = ap (λ l. take went l) records ∙ ap (λ n. take n (lines_records s.lines ++ (whole ++ lines_records s.later))) s.size ∙ take-append-add (lines_records s.lines) (whole ++ lines_records s.later) left
+      gone = ap (λ l. take written l) records ∙ ap (λ n. take n (lines_records s.lines ++ (whole ++ lines_records s.later))) s.size ∙ take-append-add (lines_records s.lines) (whole ++ lines_records s.later) left
           ∙ ap (λ l. lines_records s.lines ++ l) front;
       cut = ap (λ l. take left whole ++ l) (rest_is ∙ ap (λ l. drop left (record_of (packet_of l))) same) ∙ take-append-drop left whole ∙ ap (λ l. record_of (packet_of l)) (sym same);
     }
 
 -- what is left of a record is some of it
-pub rest_some : (all : List (List ℕ)) (text line rest : List ℕ) (went done left : ℕ) (s : StopsAt all text went done left) → line ≡ s.digits → rest ≡ drop left (record_of (packet_of line)) → rest ≢ []
-rest_some all text line rest went done left s same is none =
+pub rest_some : (all : List (List ℕ)) (text line rest : List ℕ) (written done left : ℕ) (s : StopsAt all text written done left) → line ≡ s.digits → rest ≡ drop left (record_of (packet_of line)) → rest ≢ []
+rest_some all text line rest written done left s same is none =
     let few = s.less in
     let size : length rest ≡ length (record_of (packet_of s.digits)) - left = ap length is ∙ length-drop left (record_of (packet_of line)) ∙ ap (λ l. length (record_of (packet_of l)) - left) same in
     let zero = ap length none in

@@ -39,7 +39,7 @@ made_one : (got : Option (List ℕ)) (digits : List ℕ) → AllStand got true [
 made_one got digits s = made_stands got true digits (record_of (packet_of digits)) (any_digits got [] digits s) refl
 
 went_one : (got : Option (List ℕ)) (rest : List ℕ) → Went rest got [] (after got rest)
-went_one got rest = record { went = rest; parts = sym (append-nil rest); got = refl }
+went_one got rest = record { written = rest; parts = sym (append-nil rest); got = refl }
 
 stand_one : (got : Option (List ℕ)) (digits : List ℕ) → is_whole_line digits ≡ true → AllStand got true [] [] → AllStand (after got (record_of (packet_of digits))) true [] []
 stand_one got digits h s =
@@ -74,24 +74,24 @@ got_lines (d ∷ ds) got h s =
 
 -- ---- lines, and a part of a record
 
-went_behind : (got now : Option (List ℕ)) (text went digits rest : List ℕ) (p : PartWent text went digits rest) → now ≡ after got went → Went (record_of (packet_of digits)) (after got (lines_records p.lines)) rest now
-went_behind got now text went digits rest p is = record {
-  went = p.part;
+went_behind : (got now : Option (List ℕ)) (text written digits rest : List ℕ) (p : PartWent text written digits rest) → now ≡ after got written → Went (record_of (packet_of digits)) (after got (lines_records p.lines)) rest now
+went_behind got now text written digits rest p is = record {
+  written = p.part;
   parts = sym p.cut;
   got = is ∙ ap (after got) p.gone ∙ sym (after-after got (lines_records p.lines) p.part);
 }
 
-made_behind : (got : Option (List ℕ)) (text went digits rest : List ℕ) (p : PartWent text went digits rest) → AllStand got true [] [] → AllStand (after got (lines_records p.lines)) true digits (record_of (packet_of digits))
-made_behind got text went digits rest p s = made_one (after got (lines_records p.lines)) digits (stand_lines p.lines got p.good s)
+made_behind : (got : Option (List ℕ)) (text written digits rest : List ℕ) (p : PartWent text written digits rest) → AllStand got true [] [] → AllStand (after got (lines_records p.lines)) true digits (record_of (packet_of digits))
+made_behind got text written digits rest p s = made_one (after got (lines_records p.lines)) digits (stand_lines p.lines got p.good s)
 
-stand_behind : (got now : Option (List ℕ)) (text went digits rest : List ℕ) (p : PartWent text went digits rest) → now ≡ after got went → AllStand got true [] [] → rest ≢ [] → AllStand now true digits rest
-stand_behind got now text went digits rest p is s some =
-    stand_part (after got (lines_records p.lines)) now true digits (record_of (packet_of digits)) rest (made_behind got text went digits rest p s) (line_fits digits p.line) (went_behind got now text went digits rest p is) some
+stand_behind : (got now : Option (List ℕ)) (text written digits rest : List ℕ) (p : PartWent text written digits rest) → now ≡ after got written → AllStand got true [] [] → rest ≢ [] → AllStand now true digits rest
+stand_behind got now text written digits rest p is s some =
+    stand_part (after got (lines_records p.lines)) now true digits (record_of (packet_of digits)) rest (made_behind got text written digits rest p s) (line_fits digits p.line) (went_behind got now text written digits rest p is) some
 
-got_behind : (got now : Option (List ℕ)) (text went digits rest : List ℕ) (p : PartWent text went digits rest) → now ≡ after got went → AllStand got true [] [] → rest ≢ [] → text_got now digits ≡ after (text_got got []) text
-got_behind got now text went digits rest p is s some =
+got_behind : (got now : Option (List ℕ)) (text written digits rest : List ℕ) (p : PartWent text written digits rest) → now ≡ after got written → AllStand got true [] [] → rest ≢ [] → text_got now digits ≡ after (text_got got []) text
+got_behind got now text written digits rest p is s some =
     let mid = after got (lines_records p.lines) in
-    got_part mid now true digits (record_of (packet_of digits)) rest (made_behind got text went digits rest p s) (line_fits digits p.line) (went_behind got now text went digits rest p is) some
+    got_part mid now true digits (record_of (packet_of digits)) rest (made_behind got text written digits rest p s) (line_fits digits p.line) (went_behind got now text written digits rest p is) some
     ∙ sym (after-none (text_got mid digits)) ∙ digits_got mid digits ∙ ap (λ g. after g digits) (got_lines p.lines got p.good s) ∙ after-after (text_got got []) (lines_text p.lines) digits ∙ ap (after (text_got got [])) (sym p.is)
 
 -- ---- by how the write ended
@@ -100,13 +100,13 @@ stand_answer : (answer : Written) (text : List ℕ) (got now : Option (List ℕ)
 stand_answer Whole text got now digits rest s w some =
     let g = w.left.0 in
     rw (w.got, w.left.1, w.left.2, g.all) (stand_lines g.lines got g.are.good s)
-stand_answer Lost text got now digits rest s w some = stand_behind got now text w.went digits rest w.left w.got s (some refl)
+stand_answer Lost text got now digits rest s w some = stand_behind got now text w.written digits rest w.left w.got s (some refl)
 
 got_answer : (answer : Written) (text : List ℕ) (got now : Option (List ℕ)) (digits rest : List ℕ) → AllStand got true [] [] → WentLines answer text got digits rest now → (answer ≡ Lost → rest ≢ []) → text_got now digits ≡ after (text_got got []) text
 got_answer Whole text got now digits rest s w some =
     let g = w.left.0 in
     rw (w.got, w.left.1, g.all, g.are.is) (got_lines g.lines got g.are.good s)
-got_answer Lost text got now digits rest s w some = got_behind got now text w.went digits rest w.left w.got s (some refl)
+got_answer Lost text got now digits rest s w some = got_behind got now text w.written digits rest w.left w.got s (some refl)
 
 pub stands_went : (answer : Written) (text : List ℕ) (got now : Option (List ℕ)) (any any' : Bool) (old digits over rest : List ℕ) → AllStand got any old over → any ≡ true → old ≡ [] → over ≡ [] → any' ≡ any
     → WentLines answer text got digits rest now → (answer ≡ Lost → rest ≢ []) → AllStand now any' digits rest

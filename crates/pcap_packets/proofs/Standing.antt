@@ -64,25 +64,25 @@ stands_from packets part bytes any digits rest parts is left fits begun =
     }
 
 -- a part of the rest went
-pub record WentPart (any : Bool) (digits rest' bytes went : List ℕ) : Type 0 where
-  pub same : packets_written (bytes ++ went) ≡ packets_written bytes
-  pub stands : Stands any digits rest' (bytes ++ went)
+pub record WentPart (any : Bool) (digits rest' bytes written : List ℕ) : Type 0 where
+  pub same : packets_written (bytes ++ written) ≡ packets_written bytes
+  pub stands : Stands any digits rest' (bytes ++ written)
 
-pub went_part : (any : Bool) (digits rest rest' bytes went : List ℕ) → Stands any digits rest bytes → length (packet_of digits) < 2 ^ 32 → rest ≡ went ++ rest' → rest' ≢ [] → WentPart any digits rest' bytes went
-went_part any digits rest rest' bytes went s few parts some' =
+pub went_part : (any : Bool) (digits rest rest' bytes written : List ℕ) → Stands any digits rest bytes → length (packet_of digits) < 2 ^ 32 → rest ≡ written ++ rest' → rest' ≢ [] → WentPart any digits rest' bytes written
+went_part any digits rest rest' bytes written s few parts some' =
     let ps = packets_written bytes in
     let part = part_written bytes in
     let p = packet_of digits in
-    let some : rest ≢ [] = rw parts (some_behind went rest' some') in
+    let some : rest ≢ [] = rw parts (some_behind written rest' some') in
     let hand = hand_some rest digits some in
     let hand' = hand_some rest' digits some' in
     let left : part ++ rest ≡ one_more ps p = s.left ∙ ap (wanted ps) hand in
-    let left' : (part ++ went) ++ rest' ≡ one_more ps p = append_assoc part went rest' ∙ ap (λ l. part ++ l) (sym parts) ∙ left in
-    let is : bytes ++ went ≡ capture_of ps ++ (part ++ went) = ap (λ l. l ++ went) s.parts ∙ append_assoc (capture_of ps) part went in
-    let same : packets_written (bytes ++ went) ≡ ps = ap packets_written is ∙ written_packets ps (part ++ went) s.fits (part_more ps p (part ++ went) rest' few some' left') in
+    let left' : (part ++ written) ++ rest' ≡ one_more ps p = append_assoc part written rest' ∙ ap (λ l. part ++ l) (sym parts) ∙ left in
+    let is : bytes ++ written ≡ capture_of ps ++ (part ++ written) = ap (λ l. l ++ written) s.parts ∙ append_assoc (capture_of ps) part written in
+    let same : packets_written (bytes ++ written) ≡ ps = ap packets_written is ∙ written_packets ps (part ++ written) s.fits (part_more ps p (part ++ written) rest' few some' left') in
     record {
       same = same;
-      stands = stands_from ps (part ++ went) (bytes ++ went) any digits rest' is same (left' ∙ sym (ap (wanted ps) hand')) s.fits (s.begun ∙ ap (λ h. not (is_none (ps ++ h))) (hand ∙ sym hand'));
+      stands = stands_from ps (part ++ written) (bytes ++ written) any digits rest' is same (left' ∙ sym (ap (wanted ps) hand')) s.fits (s.begun ∙ ap (λ h. not (is_none (ps ++ h))) (hand ∙ sym hand'));
     }
 
 no_record_none : is_record [] ≡ false
@@ -156,14 +156,14 @@ pub got_part : (got now : Option (List ℕ)) (any : Bool) (digits rest rest' : L
     → text_got now digits ≡ after (text_got got digits) []
 got_part None now any digits rest rest' s few w some = rw w.got refl
 got_part (Some bytes) now any digits rest rest' s few w some =
-    let p = went_part any digits rest rest' bytes w.went (s bytes refl) few w.parts some in
+    let p = went_part any digits rest rest' bytes w.written (s bytes refl) few w.parts some in
     rw (w.got, p.same) (ap Some (sym (append-nil (hex_text (packets_written bytes) ++ digits))))
 
 pub stand_part : (got now : Option (List ℕ)) (any : Bool) (digits rest rest' : List ℕ) → AllStand got any digits rest → length (packet_of digits) < 2 ^ 32 → Went rest got rest' now → rest' ≢ [] → AllStand now any digits rest'
 stand_part None now any digits rest rest' s few w some = λ bytes is. absurd (let e = w.got in cc)
 stand_part (Some old) now any digits rest rest' s few w some = λ bytes is. (
-    let p = went_part any digits rest rest' old w.went (s old refl) few w.parts some in
-    let same : old ++ w.went ≡ bytes = (let e = w.got in cc) in
+    let p = went_part any digits rest rest' old w.written (s old refl) few w.parts some in
+    let same : old ++ w.written ≡ bytes = (let e = w.got in cc) in
     rw same at p.stands)
 
 pub got_whole : (got now : Option (List ℕ)) (any : Bool) (digits rest : List ℕ) → AllStand got any digits rest → length (packet_of digits) < 2 ^ 32 → Went rest got [] now → rest ≢ [] → packet_line (packet_of digits) ≡ digits ++ 10 ∷ []
@@ -172,16 +172,16 @@ got_whole None now any digits rest s few w some line = rw w.got refl
 got_whole (Some bytes) now any digits rest s few w some line =
     let p = went_whole any digits rest [] bytes (s bytes refl) few some in
     let ps = packets_written bytes in
-    let all : rest ≡ w.went = w.parts ∙ append-nil w.went in
-    let text : hex_text (packets_written (bytes ++ w.went)) ≡ (hex_text ps ++ digits) ++ 10 ∷ [] =
+    let all : rest ≡ w.written = w.parts ∙ append-nil w.written in
+    let text : hex_text (packets_written (bytes ++ w.written)) ≡ (hex_text ps ++ digits) ++ 10 ∷ [] =
     ap (λ r. hex_text (packets_written (bytes ++ r))) (sym all) ∙ ap hex_text p.more ∙ text_snoc ps (packet_of digits) ∙ ap (λ l. hex_text ps ++ l) line ∙ sym (append_assoc (hex_text ps) digits (10 ∷ [])) in
-    rw w.got (ap Some (append-nil (hex_text (packets_written (bytes ++ w.went))) ∙ text))
+    rw w.got (ap Some (append-nil (hex_text (packets_written (bytes ++ w.written))) ∙ text))
 
 pub stand_whole : (got now : Option (List ℕ)) (any : Bool) (digits rest digits' : List ℕ) → AllStand got any digits rest → length (packet_of digits) < 2 ^ 32 → Went rest got [] now → rest ≢ [] → AllStand now any digits' []
 stand_whole None now any digits rest digits' s few w some = λ bytes is. absurd (let e = w.got in cc)
 stand_whole (Some old) now any digits rest digits' s few w some = λ bytes is. (
     let p = went_whole any digits rest digits' old (s old refl) few some in
-    let all : rest ≡ w.went = w.parts ∙ append-nil w.went in
+    let all : rest ≡ w.written = w.parts ∙ append-nil w.written in
     let same : old ++ rest ≡ bytes = (let e = w.got in cc) in
     rw same at p.stands)
 

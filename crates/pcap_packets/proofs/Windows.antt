@@ -77,17 +77,17 @@ asked_none old now new ys moved items at end size front =
     asked_held old now new ys 0 moved items at zero fits front ∙ append-nil (held old)
 
 -- what came behind others
-pub came_parts : (old new came : List ℕ) → new ≡ old ++ came → new ≡ old ++ drop (length old) new
-came_parts old new came parts = rw parts (ap (λ l. old ++ l) (sym (drop_at old came (length old) refl)))
+pub came_parts : (old new further : List ℕ) → new ≡ old ++ further → new ≡ old ++ drop (length old) new
+came_parts old new further parts = rw parts (ap (λ l. old ++ l) (sym (drop_at old further (length old) refl)))
 
-pub came_is : (old new came : List ℕ) → new ≡ old ++ came → drop (length old) new ≡ came
-came_is old new came parts = rw parts (drop_at old came (length old) refl)
+pub came_is : (old new further : List ℕ) → new ≡ old ++ further → drop (length old) new ≡ further
+came_is old new further parts = rw parts (drop_at old further (length old) refl)
 
-pub before_came : (first : Option (List ℕ)) (old new came : List ℕ) (left : Option (List ℕ)) → new ≡ old ++ came → first ≡ before came left → first ≡ before (drop (length old) new) left
-before_came first old new came left parts had = rw (came_is old new came parts) had
+pub before_came : (first : Option (List ℕ)) (old new further : List ℕ) (left : Option (List ℕ)) → new ≡ old ++ further → first ≡ before further left → first ≡ before (drop (length old) new) left
+before_came first old new further left parts had = rw (came_is old new further parts) had
 
-pub length-came : (old new ys : List ℕ) (end n : ℕ) → end + n ≤ length ys → new ≡ old ++ take n (drop end ys) → length new ≡ length old + n
-length-came old new ys end n fits parts =
+pub length-further : (old new ys : List ℕ) (end n : ℕ) → end + n ≤ length ys → new ≡ old ++ take n (drop end ys) → length new ≡ length old + n
+length-further old new ys end n fits parts =
     let left = length-drop end ys in
     let size : length (take n (drop end ys)) ≡ n = length-take-le n (drop end ys) (omega arith) in
     ap length parts ∙ length-append old (take n (drop end ys)) ∙ ap (λ k. length old + k) size
@@ -112,17 +112,17 @@ pushed old new ys bytes n front items at end put =
 -- ---- bytes that went to a sink
 
 pub went_none : (old : List ℕ) (got : Option (List ℕ)) → Went old got old got
-went_none old got = record { went = []; parts = refl; got = after-none got }
+went_none old got = record { written = []; parts = refl; got = after-none got }
 
 pub went_more : (first old new : List ℕ) (got now later : Option (List ℕ)) (n : ℕ) → Went first got old now → new ≡ drop n old → later ≡ after now (take n old) → Went first got new later
 went_more first old new got now later n h rest more = record {
-  went = h.went ++ take n old;
-  parts = h.parts ∙ ap (λ l. h.went ++ l) (sym (take-append-drop n old) ∙ ap (λ l. take n old ++ l) (sym rest)) ∙ sym (append_assoc h.went (take n old) new);
-  got = more ∙ ap (λ g. after g (take n old)) h.got ∙ after-after got h.went (take n old);
+  written = h.written ++ take n old;
+  parts = h.parts ∙ ap (λ l. h.written ++ l) (sym (take-append-drop n old) ∙ ap (λ l. take n old ++ l) (sym rest)) ∙ sym (append_assoc h.written (take n old) new);
+  got = more ∙ ap (λ g. after g (take n old)) h.got ∙ after-after got h.written (take n old);
 }
 
 pub went_same : (first old : List ℕ) (got now later : Option (List ℕ)) → Went first got old now → later ≡ after now [] → Went first got old later
-went_same first old got now later h same = record { went = h.went; parts = h.parts; got = same ∙ sym (after-none now) ∙ h.got }
+went_same first old got now later h same = record { written = h.written; parts = h.parts; got = same ∙ sym (after-none now) ∙ h.got }
 
 pub some_behind : (a b : List ℕ) → b ≢ [] → a ++ b ≢ []
 some_behind [] b some e = some e

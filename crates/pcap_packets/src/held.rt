@@ -181,7 +181,7 @@ impl Held {
     /// Writes them to a sink, from the front, until none is left or a call fails. Failed as the sink does, and then
     /// some are left.
     pub(crate) fn drain<S: Sink>(&mut self, sink: &mut S) -> Result<(), Failed>
-        ensures went { Went (held self.old) (S.got sink.old) (held self.new) (S.got sink.new) }
+        ensures written { Went (held self.old) (S.got sink.old) (held self.new) (S.got sink.new) }
         ensures whole { OnOk result (held self.new ≡ []) }
         ensures part { OnErr result (held self.new ≢ []) }
         ensures later { S.faults sink.old ≤ S.faults sink.new }
@@ -210,9 +210,9 @@ impl Held {
     {
         self.to_front();
         match ask_behind(source, &mut self.bytes, self.end) {
-            Ok(came) => {
-                self.end += came;
-                Ok(came)
+            Ok(further) => {
+                self.end += further;
+                Ok(further)
             }
             Err(Failed) => Err(Failed),
         }

@@ -120,7 +120,7 @@ impl LineRecord {
     /// Writes what is left of the record, and begins a line behind it. Failed as the sink does, and then that much is
     /// left.
     pub(crate) fn write<S: Sink>(&mut self, sink: &mut S) -> Result<(), Failed>
-        ensures went { Went (held self.old.rest) (S.got sink.old) (held self.new.rest) (S.got sink.new) }
+        ensures sent { Went (held self.old.rest) (S.got sink.old) (held self.new.rest) (S.got sink.new) }
         ensures whole { OnOk result ((held self.new.rest ≡ []) × (held self.new.line ≡ [])) }
         ensures part { OnErr result ((held self.new.rest ≢ []) × (held self.new.line ≡ held self.old.line)) }
         ensures begun { self.new.begun ≡ self.old.begun }
@@ -148,7 +148,7 @@ impl LineRecord {
     pub(crate) fn write_lines<S: Sink>(&mut self, sink: &mut S, lines: &[u8]) -> (Written, usize)
         requires line { held self.old.line ≡ [] }
         ensures within { result.1 ≤ length lines.now }
-        ensures went { WentLines result.0 (take result.1 lines.now) (S.got sink.old) (held self.new.line)
+        ensures sent { WentLines result.0 (take result.1 lines.now) (S.got sink.old) (held self.new.line)
             (held self.new.rest) (S.got sink.new) }
         ensures part { result.0 ≡ Written.Lost → (0 < result.1) × (result.1 < length lines.now) }
         ensures rest { result.0 ≡ Written.Lost → held self.new.rest ≢ [] }
@@ -162,8 +162,8 @@ impl LineRecord {
         match self.rest.drain(sink) {
             Ok(()) => (Written::Whole, count),
             Err(Failed) => {
-                let went = size - self.rest.bytes().len();
-                (Written::Lost, self.stop(&lines[..count], went))
+                let written = size - self.rest.bytes().len();
+                (Written::Lost, self.stop(&lines[..count], sent))
             }
         }
     }
@@ -204,46 +204,46 @@ impl LineRecord {
 
     // So many bytes of these lines' records went: the line in which they end is in hand, and what is left of its
     // record. Says how many bytes of the lines are written or in hand.
-    fn stop(&mut self, lines: &[u8], went: usize) -> usize
-        requires { HasCut lines.now went }
+    fn stop(&mut self, lines: &[u8], sent: usize) -> usize
+        requires { HasCut lines.now sent }
         ensures within { (0 < result) × (result < length lines.now) }
-        ensures stopped { (all : List (List ℕ)) → IsCut all lines.now went
-            → PartWent (take result lines.now) (take went (lines_records all)) (held self.new.line)
+        ensures stopped { (all : List (List ℕ)) → IsCut all lines.now sent
+            → PartWent (take result lines.now) (take sent (lines_records all)) (held self.new.line)
             (held self.new.rest) }
         ensures rest { held self.new.rest ≢ [] }
         ensures begun { self.new.begun ≡ self.old.begun }
     {
-        let (done, count, left) = stopped_line(lines, went);
+        let (done, count, left) = stopped_line(lines, sent);
         self.hold_part(&lines[done..done + count], left);
         done + count
     }
 
     // Holds this line, of whose record so many bytes went.
-    fn hold_part(&mut self, digits: &[u8], went: usize)
+    fn hold_part(&mut self, digits: &[u8], sent: usize)
         requires line { is_whole_line digits.now ≡ true }
-        requires part { went < length (record_of (packet_of digits.now)) }
+        requires part { sent < length (record_of (packet_of digits.now)) }
         ensures line { held self.new.line ≡ digits.now }
-        ensures rest { held self.new.rest ≡ drop went (record_of (packet_of digits.now)) }
+        ensures rest { held self.new.rest ≡ drop sent (record_of (packet_of digits.now)) }
         ensures begun { self.new.begun ≡ self.old.begun }
     {
         self.line.clear();
         self.line.push(digits);
         self.rest.clear();
         self.rest.push_record(&self.pairs, digits);
-        self.rest.pass(went);
+        self.rest.pass(sent);
     }
 }
 
 // Where so many bytes of lines' records end: how many bytes the lines have whose records are within, how many digits
 // the next one has, and how many bytes of its record are within.
-fn stopped_line(lines: &[u8], went: usize) -> (usize, usize, usize)
-    requires { HasCut lines.now went }
+fn stopped_line(lines: &[u8], sent: usize) -> (usize, usize, usize)
+    requires { HasCut lines.now sent }
     ensures room { (0 < result.1) × (result.0 + (result.1 + 1) ≤ length lines.now) }
     ensures next { result.1 ≡ digits_in_front (drop result.0 lines.now) }
-    ensures stops { (all : List (List ℕ)) → IsCut all lines.now went → StopsAt all lines.now went result.0 result.2 }
+    ensures stops { (all : List (List ℕ)) → IsCut all lines.now sent → StopsAt all lines.now sent result.0 result.2 }
 {
     let mut done = 0;
-    let mut left = went;
+    let mut left = sent;
     let mut count = leading_digits(lines);
     while left >= RECORD_HEADER + count / 2 {
         left -= RECORD_HEADER + count / 2;

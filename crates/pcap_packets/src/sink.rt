@@ -153,9 +153,9 @@ impl<S: Sink> PcapSink<S> {
             → HasFailed (written_faults S.faults self.old) (written_faults S.faults self.new) }
         ensures well { result.0 ≢ Written.Lost → written_faults S.faults self.new ≡ written_faults S.faults self.old }
     {
-        let (answer, went) = self.write_together(lines);
-        if went > 0 {
-            return (answer, went);
+        let (answer, sent) = self.write_together(lines);
+        if sent > 0 {
+            return (answer, sent);
         }
         self.write_one(lines)
     }
@@ -256,8 +256,8 @@ impl<S: Sink> Sink for PcapSink<S> {
     {
         let mut done = 0;
         while done < lines.len() {
-            let (answer, went) = self.write_some(&lines[done..]);
-            done += went;
+            let (answer, sent) = self.write_some(&lines[done..]);
+            done += sent;
             if answer == Written::Lost {
                 return (Written::Lost, done);
             }

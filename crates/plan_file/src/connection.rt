@@ -5,7 +5,7 @@ use maintenance_signals::Signal;
 use otn_base::{Kind, Slots, Trace};
 
 /// Where a connection comes from.
-#[derive(Clone, Debug, Drop)]
+#[derive(Debug, Drop)]
 pub enum FromEnd {
     /// A line input (0 to 3), the tributary port (1 to the number of the line's slots) and the slots that
     /// it has there.
@@ -17,7 +17,7 @@ pub enum FromEnd {
 }
 
 /// Where a connection goes.
-#[derive(Clone, Debug, Drop)]
+#[derive(Debug, Drop)]
 pub enum ToEnd {
     /// A line output (0 to 3), the tributary port (1 to the number of the line's slots) and the slots that
     /// it has there.
@@ -27,7 +27,7 @@ pub enum ToEnd {
 }
 
 /// A connection of a plan. Whether it keeps the rules is told by the plan's `fault`.
-#[derive(Clone, Debug, Drop)]
+#[derive(Debug, Drop)]
 pub struct Connection {
     /// Its name.
     pub name: Name,

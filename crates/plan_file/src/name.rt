@@ -4,7 +4,7 @@ ghost use Rattle.std.specs.Prelude.{◌≡◌, string_bytes};
 use std::marker::Model;
 
 /// The name of a connection: any text, seen as its bytes.
-#[derive(Clone, Debug, Drop)]
+#[derive(Debug, Drop)]
 pub struct Name {
     text: String,
 }

@@ -5,7 +5,7 @@ use std::marker::Model;
 
 /// How many bytes a connection takes from its client, or its signal, in each turn: a list that is
 /// gone through again and again, from the connection's first turn on.
-#[derive(Clone, Debug, Drop)]
+#[derive(Debug, Drop)]
 pub struct Pace {
     list: Vec<u32>,
 }

@@ -44,22 +44,22 @@ record IsStill (before : Selection) : Type 0 where
   side : before.side ≡ Working
   to_skip : before.to_skip ≡ 0
 
-stays_by : (m n to_skip given : ℕ) (now : BothTurn) (past : List BothTurn) → to_skip ≡ 0 → is_up now.working.state ≡ true
-    → choice_after m n (record { side = Working; to_skip = to_skip; given = given }) now past ≡ still
-stays_by m n to_skip given now past none up = rw (up, none) (by_min (min 0 now.working.bytes) (omega arith))
+stays_by : (m n to_skip emitted : ℕ) (now : BothTurn) (past : List BothTurn) → to_skip ≡ 0 → is_up now.working.state ≡ true
+    → choice_after m n (record { side = Working; to_skip = to_skip; emitted = emitted }) now past ≡ still
+stays_by m n to_skip emitted now past none up = rw (up, none) (by_min (min 0 now.working.bytes) (omega arith))
   where
     by_min : (k : ℕ) → k ≡ 0 → ◌≡◌ {A = Choice} (record { side = Working; skip = k; cause = None }) still
     by_min k e = rw e refl
 
 stays : (m n : ℕ) (before : Selection) (now : BothTurn) (past : List BothTurn) → IsStill before → is_up now.working.state ≡ true → choice_after m n before now past ≡ still
 stays m n before now past is up =
-    subst (λ side. choice_after m n (record { side = side; to_skip = before.to_skip; given = before.given }) now past ≡ still) (sym is.side)
-    (stays_by m n before.to_skip before.given now past is.to_skip up)
+    subst (λ side. choice_after m n (record { side = side; to_skip = before.to_skip; emitted = before.emitted }) now past ≡ still) (sym is.side)
+    (stays_by m n before.to_skip before.emitted now past is.to_skip up)
 
 still_after : (m n : ℕ) (before : Selection) (now : BothTurn) (past : List BothTurn) → IsStill before → is_up now.working.state ≡ true → IsStill (selection_after m n before now past)
 still_after m n before now past is up =
     let none = is.to_skip in
-    subst (λ side. is_up now.working.state ≡ true → IsStill (selection_after m n (record { side = side; to_skip = before.to_skip; given = before.given }) now past)) (sym is.side)
+    subst (λ side. is_up now.working.state ≡ true → IsStill (selection_after m n (record { side = side; to_skip = before.to_skip; emitted = before.emitted }) now past)) (sym is.side)
     (λ up. rw up (record { side = refl; to_skip = omega arith })) up
 
 past_views : (own : Tributary) (w : List ℕ) (n : ℕ) → past_of (view_at own w) 0 n ≡ views_until own w n
@@ -90,7 +90,7 @@ stays_while_carried own n bytes numbers w p u arrives t low =
     let same : choice_at own n w p t ≡ still = stays m n (selection m n past) (both_turn own w p t) past (still_at own n bytes numbers w p u t arrives (omega arith)) (up_in own bytes numbers w u t arrives low) in
     record {
       choice = same;
-      given = ap (λ (c : Choice). drop c.skip (emitted_at own (bytes_of c.side w p) t)) same;
+      emitted = ap (λ (c : Choice). drop c.skip (emitted_at own (bytes_of c.side w p) t)) same;
     }
 
 -- ---- what goes on
@@ -112,7 +112,7 @@ go_on own n bytes numbers w p u zero arrives low = record { bytes = refl; counts
 go_on own n bytes numbers w p u (suc t) arrives low =
     let before = go_on own n bytes numbers w p u t arrives (omega arith) in
     let now : given_on own n w p t ≡ emission own (signal_byte Ais) (past_of (view_at own w) 0 t) (view_at own w (0 + t)) =
-    (stays_while_carried own n bytes numbers w p u arrives t (omega arith)).given ∙ sym (emission_of own w t) in
+    (stays_while_carried own n bytes numbers w p u arrives t (omega arith)).emitted ∙ sym (emission_of own w t) in
     record {
       bytes = concat-append (given_before own n w p t) (given_on own n w p t ∷ [])
           ∙ ap (λ xs. xs ++ concat (given_on own n w p t ∷ [])) before.bytes

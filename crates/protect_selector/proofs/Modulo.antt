@@ -9,25 +9,25 @@ pub added_is : (count bytes m : ℕ) → (count % m + bytes) % m ≡ (count + by
 added_is count bytes m = mod-add-mod count m bytes
 
 -- what was given on is as much as what came with what is still to be skipped: so it stays
-pub still_aligned : (m came skip given bytes : ℕ) → given % m ≡ (came + skip) % m
-    → (given + (bytes - min skip bytes)) % m ≡ (came + bytes + (skip - min skip bytes)) % m
-still_aligned m came skip given bytes e =
-    let turned : came + skip + (bytes - min skip bytes) ≡ came + bytes + (skip - min skip bytes) = omega arith in
-    sym (mod-add-mod given m (bytes - min skip bytes))
+pub still_aligned : (m arrived skip emitted bytes : ℕ) → emitted % m ≡ (arrived + skip) % m
+    → (emitted + (bytes - min skip bytes)) % m ≡ (arrived + bytes + (skip - min skip bytes)) % m
+still_aligned m arrived skip emitted bytes e =
+    let turned : arrived + skip + (bytes - min skip bytes) ≡ arrived + bytes + (skip - min skip bytes) = omega arith in
+    sym (mod-add-mod emitted m (bytes - min skip bytes))
     ∙ ap (λ x. (x + (bytes - min skip bytes)) % m) e
-    ∙ mod-add-mod (came + skip) m (bytes - min skip bytes)
+    ∙ mod-add-mod (arrived + skip) m (bytes - min skip bytes)
     ∙ ap (λ x. x % m) turned
 
 -- and so it is from a switch on
-pub aligned_at_switch : (m came given : ℕ) → 0 < m → given % m ≡ (came + (given + (m - came % m)) % m) % m
-aligned_at_switch m came given pos =
-    let low : came % m < m = mod-lt came pos in
-    let whole : came % m + (given + (m - came % m)) ≡ given + m = omega arith in
+pub aligned_at_switch : (m arrived emitted : ℕ) → 0 < m → emitted % m ≡ (arrived + (emitted + (m - arrived % m)) % m) % m
+aligned_at_switch m arrived emitted pos =
+    let low : arrived % m < m = mod-lt arrived pos in
+    let whole : arrived % m + (emitted + (m - arrived % m)) ≡ emitted + m = omega arith in
     sym (
-    add-mod-mod came (given + (m - came % m)) m
-    ∙ sym (mod-add-mod came m (given + (m - came % m)))
+    add-mod-mod arrived (emitted + (m - arrived % m)) m
+    ∙ sym (mod-add-mod arrived m (emitted + (m - arrived % m)))
     ∙ ap (λ x. x % m) whole
-    ∙ add-mod_right given m
+    ∙ add-mod_right emitted m
     )
 
 -- a sum of numbers below m, modulo m
@@ -47,16 +47,16 @@ quotients : (m x y : ℕ) → 0 < m → x ≤ y → x / m ≤ y / m
 quotients m x y pos h = let whole : x / m * m ≤ x = div-mul-le_self x m in le-div (x / m) y m pos (omega arith)
 
 -- what is given on completes no more groups than what came
-pub no_more_groups : (m came skip given bytes : ℕ) → came < m → skip < m → given < m → given ≡ (came + skip) % m
-    → (given + (bytes - min skip bytes)) / m ≤ (came + bytes) / m
-no_more_groups m came skip given bytes lc ls lg e = elim (leb_tells bytes skip) [
+pub no_more_groups : (m arrived skip emitted bytes : ℕ) → arrived < m → skip < m → emitted < m → emitted ≡ (arrived + skip) % m
+    → (emitted + (bytes - min skip bytes)) / m ≤ (arrived + bytes) / m
+no_more_groups m arrived skip emitted bytes lc ls lg e = elim (leb_tells bytes skip) [
   | inl few ↦
-      let none : (given + (bytes - min skip bytes)) / m ≡ 0 = div-eq_of_lt (let u = few.1 in let f : given + (bytes - min skip bytes) < m = omega arith in f) in
+      let none : (emitted + (bytes - min skip bytes)) / m ≡ 0 = div-eq_of_lt (let u = few.1 in let f : emitted + (bytes - min skip bytes) < m = omega arith in f) in
       omega arith
   | inr more ↦
       let u = more.1 in
-      let small = small_sum m came skip given lc ls e in
-      let less : given + (bytes - min skip bytes) ≤ came + bytes = omega arith in
+      let small = small_sum m arrived skip emitted lc ls e in
+      let less : emitted + (bytes - min skip bytes) ≤ arrived + bytes = omega arith in
       quotients m _ _ (let f : 0 < m = omega arith in f) less
 ]
 
@@ -68,10 +68,10 @@ groups_of_sum m x y pos =
     ap (λ z. z / m) whole ∙ mul-add-div pos (x / m) (x % m + y)
 
 -- the same of totals
-pub no_more_in_total : (m came skip given bytes most : ℕ) → 0 < m → skip < m → given % m ≡ (came + skip) % m → (came + bytes) / m ≤ came / m + most
-    → (given + (bytes - min skip bytes)) / m ≤ given / m + most
-no_more_in_total m came skip given bytes most pos ls e fits =
-    let one = groups_of_sum m came bytes pos in
-    let two = groups_of_sum m given (bytes - min skip bytes) pos in
-    let less = no_more_groups m (came % m) skip (given % m) bytes (mod-lt came pos) ls (mod-lt given pos) (e ∙ sym (mod-add-mod came m skip)) in
+pub no_more_in_total : (m arrived skip emitted bytes most : ℕ) → 0 < m → skip < m → emitted % m ≡ (arrived + skip) % m → (arrived + bytes) / m ≤ arrived / m + most
+    → (emitted + (bytes - min skip bytes)) / m ≤ emitted / m + most
+no_more_in_total m arrived skip emitted bytes most pos ls e fits =
+    let one = groups_of_sum m arrived bytes pos in
+    let two = groups_of_sum m emitted (bytes - min skip bytes) pos in
+    let less = no_more_groups m (arrived % m) skip (emitted % m) bytes (mod-lt arrived pos) ls (mod-lt emitted pos) (e ∙ sym (mod-add-mod arrived m skip)) in
     omega arith

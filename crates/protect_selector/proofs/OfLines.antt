@@ -30,13 +30,13 @@ pub given_next : (own : Tributary) (n : ℕ) (w p : List ℕ) (t : ℕ) → give
 unfolding given_before
 given_next own n w p t = refl
 
-views_next : (own : Tributary) (given : List ℕ) (t : ℕ) → views_until own given (suc t) ≡ view_at own given t ∷ views_until own given t
+views_next : (own : Tributary) (available : List ℕ) (t : ℕ) → views_until own available (suc t) ≡ view_at own available t ∷ views_until own available t
 unfolding views_until
-views_next own given t = refl
+views_next own available t = refl
 
-emission_at : (own : Tributary) (given : List ℕ) (t : ℕ) → emission own (signal_byte Ais) (views_until own given t) (view_at own given t) ≡ emitted_at own given t
+emission_at : (own : Tributary) (available : List ℕ) (t : ℕ) → emission own (signal_byte Ais) (views_until own available t) (view_at own available t) ≡ emitted_at own available t
 unfolding emitted_at
-emission_at own given t = refl
+emission_at own available t = refl
 
 pub side_of : (own : Tributary) (w p : List ℕ) (t : ℕ) (side : Side) → of_side side (both_turn own w p t) ≡ side_turn own (bytes_of side w p) t
 side_of own w p t Working = refl
@@ -59,10 +59,10 @@ came_total own w p side (suc t) =
     let next = total_next own (signal_byte Ais) (views_until own line t) (view_at own line t) in
     omega arith
 
-whole_until : (own : Tributary) (given : List ℕ) (t : ℕ) → IsTributary own → AreWholeTurns (length own.slots) (views_until own given t)
+whole_until : (own : Tributary) (available : List ℕ) (t : ℕ) → IsTributary own → AreWholeTurns (length own.slots) (views_until own available t)
 unfolding views_until
-whole_until own given zero is = tt
-whole_until own given (suc t) is = (whole_at own given t is, whole_until own given t is)
+whole_until own available zero is = tt
+whole_until own available (suc t) is = (whole_at own available t is, whole_until own available t is)
 
 -- a side completes no more groups in a turn than a multiframe has
 few_came : (own : Tributary) (w p : List ℕ) (side : Side) (t : ℕ) → IsTributary own
@@ -87,7 +87,7 @@ given_size own n w p t =
     ∙ ap (λ (turn : SideTurn). turn.bytes - choice.skip) (sym (side_of own w p t choice.side))
 
 -- what is given on in all is what the selection counts
-pub given_total : (own : Tributary) (n : ℕ) (w p : List ℕ) (t : ℕ) → sum (lengths_of (given_before own n w p t)) ≡ (selection (length own.slots) n (turns_before own w p t)).given
+pub given_total : (own : Tributary) (n : ℕ) (w p : List ℕ) (t : ℕ) → sum (lengths_of (given_before own n w p t)) ≡ (selection (length own.slots) n (turns_before own w p t)).emitted
 unfolding given_before turns_before choice_at
 given_total own n w p zero = rw (selection_start (length own.slots) n) refl
 given_total own n w p (suc t) =
@@ -111,6 +111,6 @@ completes_on own n w p t is =
     let choice = choice_at own n w p t in
     let law = groups_law m n 15232 now past (some_slots own is) (few_came own w p choice.side t is) in
     let total = sent_all (given_before own n w p t) ∙ given_total own n w p t in
-    let next : (selection m n (now ∷ past)).given ≡ (selection m n past).given + length (given_on own n w p t) =
+    let next : (selection m n (now ∷ past)).emitted ≡ (selection m n past).emitted + length (given_on own n w p t) =
     rw (selection_next m n now past) (let size = given_size own n w p t in omega arith) in
-    subst (λ x. (x + length (given_on own n w p t)) / m ≤ x / m + 15232) (sym total) (subst (λ x. x / m ≤ (selection m n past).given / m + 15232) next law)
+    subst (λ x. (x + length (given_on own n w p t)) / m ≤ x / m + 15232) (sym total) (subst (λ x. x / m ≤ (selection m n past).emitted / m + 15232) next law)

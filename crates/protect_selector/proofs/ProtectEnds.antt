@@ -39,9 +39,9 @@ pub settled_by : (parts : Protecting) (was mid is : BaysView) (report : SinkView
     → line ≡ parts.working.line → line' ≡ parts.protection.line → ByteAnswer (not (is_seen line.reader.ending)) x x' answer → ByteAnswer (not (is_seen line'.reader.ending)) y y' answer'
     → dead ≡ has_dead (ends_of is report) → more ≡ (answer || answer') → ended ≡ ended_by dead more → SettledAs parts (ends_of was report) (ends_of is report) ended
 settled_by parts was mid is report x y x' y' line line' answer answer' dead more ended seen l l' one two d m e = record {
-  working_came = one.came;
+  working_read = one.further;
   working_asked = rw (seen.working_was, seen.working_is, sym l) one.asked;
-  protection_came = two.came;
+  protection_read = two.further;
   protection_asked = rw (seen.protection_was, seen.protection_is, sym l') two.asked;
   output = seen.output;
   report = refl;
@@ -136,8 +136,8 @@ pub all_done : (own : Tributary) (turns n : ℕ) (first mid last : Ends) (parts 
 all_done own turns n first mid last parts ended ready gone settled =
     let on_w = gone.stands.on_working.line in
     let on_p = gone.stands.on_protection.line in
-    let came_w = settled.working_came in
-    let came_p = settled.protection_came in
+    let came_w = settled.working_read in
+    let came_p = settled.protection_read in
     record {
       working = gone.working ++ came_w;
       protection = gone.protection ++ came_p;
@@ -194,16 +194,16 @@ closed_none Open s closed = absurd (closed refl)
 closed_none Seen s closed = refl
 closed_none Died s closed = refl
 
-left_open : (own : Tributary) (first now : InView) (taken : List ℕ) (t : ℕ) (tap : TapView) → TapStands own first now taken t tap → InputLeft first now taken (more_of tap.line.reader.ending now.state)
-left_open own first now taken t tap h = record {
+left_open : (own : Tributary) (first now : InView) (read : List ℕ) (t : ℕ) (tap : TapView) → TapStands own first now read t tap → InputLeft first now read (more_of tap.line.reader.ending now.state)
+left_open own first now read t tap h = record {
   gave = h.line.gave;
   live = more_live tap.line.reader.ending now.state;
   over = λ none live. h.line.over (none_closed tap.line.reader.ending now.state none live) live;
-  died = died_unended plain_otu2 first now taken t tap.line h.line;
+  died = died_unended plain_otu2 first now read t tap.line h.line;
 }
 
-may_open : (e : Ending) (s : State) (taken given : List ℕ) → MayHave (more_of e s) taken given → MayBe false e taken given
-may_open e s taken given may = record { rest = may.rest; over = λ closed. may.over (closed_none e s closed); parts = may.parts }
+may_open : (e : Ending) (s : State) (read available : List ℕ) → MayHave (more_of e s) read available → MayBe false e read available
+may_open e s read available may = record { rest = may.rest; over = λ closed. may.over (closed_none e s closed); parts = may.parts }
 
 pub stopped_at : (own : Tributary) (turns n t : ℕ) (first last : Ends) (working protection : List ℕ) (parts : Protecting) → AreReady parts → t < turns → StandsLost own n first last working protection t parts
     → ProtectRan own turns n first last ReportFault
@@ -222,7 +222,7 @@ stopped_at own turns n t first last working protection parts ready less stands =
         less,
         record {
           output = output_due own n w p t first last parts.feed agrees.fed;
-          went = agrees.went;
+          written = agrees.written;
           part = agrees.part;
           report = agrees.told;
         },
@@ -253,15 +253,15 @@ pub one_more : (own : Tributary) (n t : ℕ) (first was is : Ends) (old new : Pr
     → ((working protection : List ℕ) → Stands own n first was working protection t old → TurnGone written.Whole own n first is working protection t new)
     → TurnsGone own n first was t old → TurnsGone own n first is (t + 1) new
 one_more own n t first was is old new turn gone =
-    let went = turn gone.working gone.protection gone.stands in
-    rw (add-one t) (record { working = gone.working ++ went.working_came; protection = gone.protection ++ went.protection_came; stands = went.left })
+    let written = turn gone.working gone.protection gone.stands in
+    rw (add-one t) (record { working = gone.working ++ sent.working_read; protection = gone.protection ++ sent.protection_read; stands = sent.left })
 
 pub one_lost : (own : Tributary) (turns n t : ℕ) (first was is : Ends) (old new : Protecting) → AreReady new → t < turns
     → ((working protection : List ℕ) → Stands own n first was working protection t old → TurnGone written.Lost own n first is working protection t new)
     → TurnsGone own n first was t old → ProtectRan own turns n first is ReportFault
 one_lost own turns n t first was is old new ready less turn gone =
-    let went = turn gone.working gone.protection gone.stands in
-    stopped_at own turns n t first is (gone.working ++ went.working_came) (gone.protection ++ went.protection_came) new ready less went.left
+    let written = turn gone.working gone.protection gone.stands in
+    stopped_at own turns n t first is (gone.working ++ sent.working_read) (gone.protection ++ sent.protection_read) new ready less sent.left
 
 -- ---- the other places
 

@@ -47,8 +47,8 @@ pub record TurnChosen (own : Tributary) (first : Ends) (is_w is_p : InView) (w p
   pub moves_p : TurnMoves own first.protection is_p p t old.protection tap_p ep
   pub sw : SinkState
   pub sp : SinkState
-  pub state_w : (given : List ℕ) → MayBe false tap_w.line.reader.ending (w ++ moves_w.came) given → sw ≡ state_after own (views_until own given (t + 1))
-  pub state_p : (given : List ℕ) → MayBe false tap_p.line.reader.ending (p ++ moves_p.came) given → sp ≡ state_after own (views_until own given (t + 1))
+  pub state_w : (available : List ℕ) → MayBe false tap_w.line.reader.ending (w ++ moves_w.further) available → sw ≡ state_after own (views_until own available (t + 1))
+  pub state_p : (available : List ℕ) → MayBe false tap_p.line.reader.ending (p ++ moves_p.further) available → sp ≡ state_after own (views_until own available (t + 1))
   pub picks : (m n : ℕ) (past : List BothTurn) → HasChosen m n past old.selector
       → (choice ≡ choice_in m n (now_of sw sp (length ew) (length ep)) past) × HasChosen m n (now_of sw sp (length ew) (length ep) ∷ past) selector
 
@@ -56,12 +56,12 @@ pub record TurnChosen (own : Tributary) (first : Ends) (is_w is_p : InView) (w p
 pub turn_chosen : (own : Tributary) (first was is : Ends) (x y x' y' : InView) (w p : List ℕ) (t : ℕ) (old : Protecting) (tap_w tap_p : TapView) (ew ep : List ℕ) (sw sp : SinkState) (wl pl : ℕ) (choice : Choice) (selector : SelectorView)
     → was.working ≡ x → is.working ≡ x' → was.protection ≡ y → is.protection ≡ y'
     → TapStands own first.working was.working w t old.working → TapStands own first.protection was.protection p t old.protection
-    → ((own : Tributary) (first : InView) (taken : List ℕ) (t : ℕ) → TapStands own first x taken t old.working → TurnMoves own first x' taken t old.working tap_w ew)
-    → ((own : Tributary) (first : InView) (taken : List ℕ) (t : ℕ) → TapStands own first y taken t old.protection → TurnMoves own first y' taken t old.protection tap_p ep)
-    → ((own : Tributary) (first now : InView) (taken : List ℕ) (t : ℕ) → TapStands own first now taken t tap_w
-    → (given : List ℕ) → MayBe false tap_w.line.reader.ending taken given → sw ≡ state_after own (views_until own given t))
-    → ((own : Tributary) (first now : InView) (taken : List ℕ) (t : ℕ) → TapStands own first now taken t tap_p
-    → (given : List ℕ) → MayBe false tap_p.line.reader.ending taken given → sp ≡ state_after own (views_until own given t))
+    → ((own : Tributary) (first : InView) (read : List ℕ) (t : ℕ) → TapStands own first x read t old.working → TurnMoves own first x' read t old.working tap_w ew)
+    → ((own : Tributary) (first : InView) (read : List ℕ) (t : ℕ) → TapStands own first y read t old.protection → TurnMoves own first y' read t old.protection tap_p ep)
+    → ((own : Tributary) (first now : InView) (read : List ℕ) (t : ℕ) → TapStands own first now read t tap_w
+    → (available : List ℕ) → MayBe false tap_w.line.reader.ending read available → sw ≡ state_after own (views_until own available t))
+    → ((own : Tributary) (first now : InView) (read : List ℕ) (t : ℕ) → TapStands own first now read t tap_p
+    → (available : List ℕ) → MayBe false tap_p.line.reader.ending read available → sp ≡ state_after own (views_until own available t))
     → wl ≡ length ew → pl ≡ length ep
     → ((m n : ℕ) (past : List BothTurn) → HasChosen m n past old.selector → (choice ≡ choice_in m n (now_of sw sp wl pl) past) × HasChosen m n (now_of sw sp wl pl ∷ past) selector)
     → TurnChosen own first is.working is.protection w p t old tap_w tap_p ew ep choice selector
@@ -73,8 +73,8 @@ turn_chosen own first was is x y x' y' w p t old tap_w tap_p ew ep sw sp wl pl c
       moves_p = subst (λ v. TurnMoves own first.protection v p t old.protection tap_p ep) (sym d) moves_p;
       sw = sw;
       sp = sp;
-      state_w = λ given may. states_w own first.working is.working _ (t + 1) (subst (λ v. TurnMoves own first.working v w t old.working tap_w ew) (sym b) moves_w).stands given may;
-      state_p = λ given may. states_p own first.protection is.protection _ (t + 1) (subst (λ v. TurnMoves own first.protection v p t old.protection tap_p ep) (sym d) moves_p).stands given may;
+      state_w = λ available may. states_w own first.working is.working _ (t + 1) (subst (λ v. TurnMoves own first.working v w t old.working tap_w ew) (sym b) moves_w).stands available may;
+      state_p = λ available may. states_p own first.protection is.protection _ (t + 1) (subst (λ v. TurnMoves own first.protection v p t old.protection tap_p ep) (sym d) moves_p).stands available may;
       picks = subst (λ n. (m k : ℕ) (past : List BothTurn) → HasChosen m k past old.selector → (choice ≡ choice_in m k (now_of sw sp (length ew) n) past) × HasChosen m k (now_of sw sp (length ew) n ∷ past) selector) f
           (subst (λ n. (m k : ℕ) (past : List BothTurn) → HasChosen m k past old.selector → (choice ≡ choice_in m k (now_of sw sp n pl) past) × HasChosen m k (now_of sw sp n pl ∷ past) selector) e picks);
     }
@@ -119,7 +119,7 @@ chooses own n w p t old selector sw sp ew ep choice chosen e f g h picks =
 
 chooses_of : (own : Tributary) (n : ℕ) (first was : Ends) (is_w is_p : InView) (w p : List ℕ) (t : ℕ) (old : Protecting) (tap_w tap_p : TapView) (ew ep : List ℕ) (choice : Choice) (selector : SelectorView)
     → (done : TurnChosen own first is_w is_p w p t old tap_w tap_p ew ep choice selector) → (gw gp : List ℕ) → AgreesAfter own n t first was gw gp old
-    → MayBe false tap_w.line.reader.ending (w ++ done.moves_w.came) gw → MayBe false tap_p.line.reader.ending (p ++ done.moves_p.came) gp
+    → MayBe false tap_w.line.reader.ending (w ++ done.moves_w.further) gw → MayBe false tap_p.line.reader.ending (p ++ done.moves_p.further) gp
     → Chooses own n gw gp t ew ep choice selector
 chooses_of own n first was is_w is_p w p t old tap_w tap_p ew ep choice selector done gw gp agrees may_w may_p =
     chooses own n gw gp t old.selector selector done.sw done.sp ew ep choice agrees.chosen (done.moves_w.emits gw may_w) (done.moves_p.emits gp may_p) (done.state_w gw may_w) (done.state_p gp may_p) done.picks
@@ -132,11 +132,11 @@ pub whole_turn : (own : Tributary) (n : ℕ) (first was is : Ends) (w p : List �
     → FeedStands own first.output is.output (turns ++ drop choice.skip (bytes_of choice.side ew ep) ∷ []) feed)
     → TurnGone written.Whole own n first is w p t (record { working = tap_w; protection = tap_p; selector = selector; feed = feed })
 whole_turn own n first was is w p t old tap_w tap_p ew ep choice selector feed trib stood done told fed = record {
-  working_came = done.moves_w.came;
-  protection_came = done.moves_p.came;
+  working_read = done.moves_w.further;
+  protection_read = done.moves_p.further;
   left = record {
-    on_working = subst (λ k. TapStands own first.working is.working (w ++ done.moves_w.came) k tap_w) (add-one t) done.moves_w.stands;
-    on_protection = subst (λ k. TapStands own first.protection is.protection (p ++ done.moves_p.came) k tap_p) (add-one t) done.moves_p.stands;
+    on_working = subst (λ k. TapStands own first.working is.working (w ++ done.moves_w.further) k tap_w) (add-one t) done.moves_w.stands;
+    on_protection = subst (λ k. TapStands own first.protection is.protection (p ++ done.moves_p.further) k tap_p) (add-one t) done.moves_p.stands;
     holds = λ gw gp may_w may_p.
         let agrees = stood.holds gw gp (done.moves_w.earlier gw may_w) (done.moves_p.earlier gp may_p) in
         let chosen = chooses_of own n first was is.working is.protection w p t old tap_w tap_p ew ep choice selector done gw gp agrees may_w may_p in
@@ -158,17 +158,17 @@ pub lost_turn : (own : Tributary) (n : ℕ) (first was is : Ends) (w p : List �
     → SinkWrites written.Lost was.report (switch_line t choice.side choice.cause) is.report
     → TurnGone written.Lost own n first is w p t (record { working = tap_w; protection = tap_p; selector = selector; feed = old.feed })
 lost_turn own n first was is w p t old tap_w tap_p ew ep choice selector stood done same told = record {
-  working_came = done.moves_w.came;
-  protection_came = done.moves_p.came;
+  working_read = done.moves_w.further;
+  protection_read = done.moves_p.further;
   left = record {
-    on_working = subst (λ k. TapStands own first.working is.working (w ++ done.moves_w.came) k tap_w) (add-one t) done.moves_w.stands;
-    on_protection = subst (λ k. TapStands own first.protection is.protection (p ++ done.moves_p.came) k tap_p) (add-one t) done.moves_p.stands;
+    on_working = subst (λ k. TapStands own first.working is.working (w ++ done.moves_w.further) k tap_w) (add-one t) done.moves_w.stands;
+    on_protection = subst (λ k. TapStands own first.protection is.protection (p ++ done.moves_p.further) k tap_p) (add-one t) done.moves_p.stands;
     holds = λ gw gp may_w may_p.
         let agrees = stood.holds gw gp (done.moves_w.earlier gw may_w) (done.moves_p.earlier gp may_p) in
         let chosen = chooses_of own n first was is.working is.protection w p t old tap_w tap_p ew ep choice selector done gw gp agrees may_w may_p in
         record {
           fed = subst (λ out. FeedStands own first.output out (given_before own n gw gp t) old.feed) (sym same) agrees.fed;
-          went = told.0;
+          written = told.0;
           part = subst (λ text. told.0 < length text) chosen.line told.1;
           told = subst (λ text. SinkGot first.report (switch_text own n gw gp t ++ take told.0 text) is.report) chosen.line
               (sink_got_twice first.report was.report is.report (switch_text own n gw gp t) (take told.0 (switch_line t choice.side choice.cause)) agrees.told told.2);

@@ -16,7 +16,7 @@ use Rattle.protect_selector.specs.OfLines.{choice_at, given_on, given_before, sw
 -- until then, whatever protection brings, and all that the working sink emits goes on.
 pub record Stays (own : Tributary) (n : ℕ) (w p : List ℕ) (t : ℕ) : Type 0 where
   pub choice : choice_at own n w p t ≡ record { side = Working; skip = 0; cause = None }
-  pub given : given_on own n w p t ≡ emitted_at own w t
+  pub emitted : given_on own n w p t ≡ emitted_at own w t
 
 abbrev pub StaysWhileCarried : Type 0
 StaysWhileCarried = (own : Tributary) (n : ℕ) (bytes numbers w p : List ℕ) (u : ℕ)

@@ -40,10 +40,10 @@ GivesAllOn = (m n : ℕ) (now : BothTurn) (past : List BothTurn)
 -- A side's groups of m bytes and those that are given on stay one behind the other.
 abbrev pub AreAligned : Type 0
 AreAligned = (m n : ℕ) (past : List BothTurn) → 0 < m
-    → (selection m n past).given % m ≡ (came_of (selection m n past).side past + (selection m n past).to_skip) % m
+    → (selection m n past).emitted % m ≡ (came_of (selection m n past).side past + (selection m n past).to_skip) % m
 
 -- A turn that is given on completes no more groups than its side's emission does.
 abbrev pub CompletesNoMore : Type 0
 CompletesNoMore = (m n most : ℕ) (now : BothTurn) (past : List BothTurn) → 0 < m
     → came_of (choice_in m n now past).side (now ∷ past) / m ≤ came_of (choice_in m n now past).side past / m + most
-    → (selection m n (now ∷ past)).given / m ≤ (selection m n past).given / m + most
+    → (selection m n (now ∷ past)).emitted / m ≤ (selection m n past).emitted / m + most

@@ -13,10 +13,10 @@ use Rattle.protect_selector.specs.declared.side.SwitchCause.TheVariants.{Defect,
 use Rattle.protect_selector.specs.Selected.{SideTurn, BothTurn, choice_in}
 
 -- what the sink of the tributary comes to in turn t of a line
-abbrev pub side_turn : Tributary → (given : List ℕ) → (t : ℕ) → SideTurn
-side_turn own given t = record {
-  state = state_after own (views_until own given (suc t));
-  bytes = length (emitted_at own given t);
+abbrev pub side_turn : Tributary → (available : List ℕ) → (t : ℕ) → SideTurn
+side_turn own available t = record {
+  state = state_after own (views_until own available (suc t));
+  bytes = length (emitted_at own available t);
 }
 
 abbrev pub both_turn : Tributary → (working protection : List ℕ) → (t : ℕ) → BothTurn

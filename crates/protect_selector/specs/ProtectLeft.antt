@@ -16,12 +16,12 @@ use Rattle.otn_ports.specs.declared.ended.Ended.{Ended}
 use Rattle.otn_ports.specs.declared.ended.Ended.TheVariants.{Unfinished, Cut, ReportFault, Memory}
 
 -- a line that has more than so many turns want
-abbrev pub HasMore : (turns : ℕ) → (given : List ℕ) → Type 0
-HasMore turns given = line_taken plain_otu2 given turns 0 < length given
+abbrev pub HasMore : (turns : ℕ) → (available : List ℕ) → Type 0
+HasMore turns available = line_taken plain_otu2 available turns 0 < length available
 
 -- of a line was taken what so many turns want, and one byte more, or all that there is
-abbrev pub TookOf : (turns : ℕ) → (given taken : List ℕ) → Type 0
-TookOf turns given taken = length taken ≡ min (length given) (suc (line_taken plain_otu2 given turns 0))
+abbrev pub TookOf : (turns : ℕ) → (emitted read : List ℕ) → Type 0
+TookOf turns emitted read = length read ≡ min (length emitted) (suc (line_taken plain_otu2 emitted turns 0))
 
 -- a place of the command is dead
 abbrev pub IsCut : Ends → Type 0
@@ -47,9 +47,9 @@ pub record AllDone (own : Tributary) (turns n : ℕ) (first last : Ends) (ended 
 -- the lines before. The frames of the turns before were written.
 pub record StoppedIn (own : Tributary) (t n : ℕ) (first last : Ends) (w p : List ℕ) : Type 0 where
   pub output : OutputDue own (given_before own n w p t) t first last
-  pub went : ℕ
-  pub part : went < length (switch_text_at own n w p t)
-  pub report : SinkGot first.report (switch_text own n w p t ++ take went (switch_text_at own n w p t)) last.report
+  pub written : ℕ
+  pub part : written < length (switch_text_at own n w p t)
+  pub report : SinkGot first.report (switch_text own n w p t ++ take written (switch_text_at own n w p t)) last.report
 
 -- That ended the command at once: of both lines was taken what the turns up to turn t + 1 want, and no more.
 pub record StoppedTaking (t : ℕ) (working protection w p : List ℕ) : Type 0 where

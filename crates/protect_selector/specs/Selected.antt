@@ -74,17 +74,17 @@ came_of side (now ∷ past) = came_of side past + (of_side side now).bytes
 pub record Selection : Type 0 where
   pub side : Side
   pub to_skip : ℕ
-  pub given : ℕ
+  pub emitted : ℕ
 
 -- What is skipped of a side from a switch on, so that groups of m bytes stay whole: the number of bytes given on less
 -- that of the bytes that the side emitted before, modulo m.
-abbrev pub skip_at_switch : (m given came : ℕ) → ℕ
-skip_at_switch m given came = (given + (m - came % m)) % m
+abbrev pub skip_at_switch : (m emitted arrived : ℕ) → ℕ
+skip_at_switch m emitted arrived = (emitted + (m - arrived % m)) % m
 
 -- what is still to be skipped when a turn of this side begins
-abbrev pub to_skip_in : (m came : ℕ) → Option SwitchCause → Selection → ℕ
-to_skip_in m came None before = before.to_skip
-to_skip_in m came (Some cause) before = skip_at_switch m before.given came
+abbrev pub to_skip_in : (m arrived : ℕ) → Option SwitchCause → Selection → ℕ
+to_skip_in m arrived None before = before.to_skip
+to_skip_in m arrived (Some cause) before = skip_at_switch m before.emitted arrived
 
 -- the choice in a turn: as many are skipped as are to be, where the emission has so many
 abbrev pub choice_by : (to_skip bytes : ℕ) → Side → Option SwitchCause → Choice
@@ -102,12 +102,12 @@ selection_after m n before now past =
     let choice = choice_after m n before now past in record {
       side = choice.side;
       to_skip = to_skip_in m (came_of choice.side past) choice.cause before - choice.skip;
-      given = before.given + ((of_side choice.side now).bytes - choice.skip);
+      emitted = before.emitted + ((of_side choice.side now).bytes - choice.skip);
     }
 
 -- the selection of m slots after these turns: working before the first
 unfoldable pub selection : (m n : ℕ) → List BothTurn → Selection
-selection m n [] = record { side = Working; to_skip = 0; given = 0 }
+selection m n [] = record { side = Working; to_skip = 0; emitted = 0 }
 selection m n (now ∷ past) = selection_after m n (selection m n past) now past
 
 -- what is chosen in the first of these turns

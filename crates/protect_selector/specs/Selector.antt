@@ -14,7 +14,7 @@ pub record SelectorView : Type 0 where
   pub side : Side
   pub up : ℕ
   pub skip : ℕ
-  pub given : ℕ
+  pub emitted : ℕ
   pub working : ℕ
   pub protection : ℕ
 
@@ -34,10 +34,10 @@ pub record IsSelector (s : SelectorView) : Type 0 where
   pub few : s.m ≤ MOST_SLOTS
   pub up_high : s.up ≤ s.n
   pub skip_high : s.skip < s.m
-  pub given_high : s.given < s.m
+  pub given_high : s.emitted < s.m
   pub working_high : s.working < s.m
   pub protection_high : s.protection < s.m
-  pub aligned : s.given ≡ (came_in s.side s + s.skip) % s.m
+  pub aligned : s.emitted ≡ (came_in s.side s + s.skip) % s.m
 
 -- It is one of m slots that waits for n turns, and these turns went by, the last first.
 pub record HasChosen (m n : ℕ) (past : List BothTurn) (s : SelectorView) : Type 0 where
@@ -46,6 +46,6 @@ pub record HasChosen (m n : ℕ) (past : List BothTurn) (s : SelectorView) : Typ
   pub up : s.up ≡ min n (turns_up past)
   pub side : s.side ≡ (selection m n past).side
   pub to_skip : s.skip ≡ (selection m n past).to_skip
-  pub given : s.given ≡ (selection m n past).given % m
+  pub emitted : s.emitted ≡ (selection m n past).emitted % m
   pub working : s.working ≡ came_of Working past % m
   pub protection : s.protection ≡ came_of Protection past % m

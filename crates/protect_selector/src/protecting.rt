@@ -144,7 +144,7 @@ fn give_on<O: Sink>(
     ensures slots { feed.new.source.slots ≡ feed.old.source.slots }
     ensures working_stays { vec_len working_room.new ≡ vec_len working_room.old }
     ensures protection_stays { vec_len protection_room.new ≡ vec_len protection_room.old }
-    ensures gained { (went : List ℕ) × Gained (out_view O.Sink place.old) went (out_view O.Sink place.new) }
+    ensures gained { (written : List ℕ) × Gained (out_view O.Sink place.old) written (out_view O.Sink place.new) }
 {
     match choice.side {
         Side::Working => feed.turn(

@@ -18,7 +18,7 @@ pub struct Selector {
     side: Side,
     up: u32,
     skip: u32,
-    given: u32,
+    emitted: u32,
     working: u32,
     protection: u32,
 }
@@ -28,11 +28,11 @@ impl Model for Selector {
 
     ghost Value = { SelectorView };
 
-    ghost view = { λ s. record { m = s.slots; n = s.wait; side = s.side; up = s.up; skip = s.skip; given = s.given; working = s.working; protection = s.protection } };
+    ghost view = { λ s. record { m = s.slots; n = s.wait; side = s.side; up = s.up; skip = s.skip; emitted = s.emitted; working = s.working; protection = s.protection } };
 
-    ghost invariant = { λ s. IsSelector (record { m = s.slots; n = s.wait; side = s.side; up = s.up; skip = s.skip; given = s.given; working = s.working; protection = s.protection }) };
+    ghost invariant = { λ s. IsSelector (record { m = s.slots; n = s.wait; side = s.side; up = s.up; skip = s.skip; emitted = s.emitted; working = s.working; protection = s.protection }) };
 
-    ghost inverse = { λ s. record { slots = s.m; wait = s.n; side = s.side; up = s.up; skip = s.skip; given = s.given; working = s.working; protection = s.protection } };
+    ghost inverse = { λ s. record { slots = s.m; wait = s.n; side = s.side; up = s.up; skip = s.skip; emitted = s.emitted; working = s.working; protection = s.protection } };
 }
 
 impl Selector {
@@ -49,7 +49,7 @@ impl Selector {
             side: Side::Working,
             up: 0,
             skip: 0,
-            given: 0,
+            emitted: 0,
             working: 0,
             protection: 0,
         }
@@ -82,20 +82,20 @@ impl Selector {
               working = record { state = working; bytes = working_len };
               protection = record { state = protection; bytes = protection_len };
             } in
-            (self.old.given + ((of_side_in result.side now).bytes - result.skip)) / self.old.m ≤ (came_in result.side self.old + (of_side_in result.side now).bytes) / self.old.m }
+            (self.old.emitted + ((of_side_in result.side now).bytes - result.skip)) / self.old.m ≤ (came_in result.side self.old + (of_side_in result.side now).bytes) / self.old.m }
         ensures slots { self.new.m ≡ self.old.m }
     {
         let m = self.slots;
         self.up = turns_up(working, self.up, self.wait);
         let cause = cause_of(self.side, working, protection, self.up, self.wait);
         let side = side_by(self.side, cause);
-        let came = of_side(side, self.working, self.protection);
-        let to_skip = to_skip_in(m, came, cause, self.skip, self.given);
+        let arrived = of_side(side, self.working, self.protection);
+        let to_skip = to_skip_in(m, arrived, cause, self.skip, self.emitted);
         let bytes = bytes_of(side, working_len, protection_len);
         let skip = (to_skip as usize).min(bytes);
         self.side = side;
         self.skip = to_skip - skip as u32;
-        self.given = added(self.given, bytes - skip, m);
+        self.emitted = added(self.emitted, bytes - skip, m);
         self.working = added(self.working, working_len, m);
         self.protection = added(self.protection, protection_len, m);
         Choice { side, skip, cause }
@@ -170,15 +170,15 @@ fn bytes_of(side: Side, working: usize, protection: usize) -> usize
 }
 
 // What is to be skipped in a turn: what was still to be skipped, and anew after a switch.
-fn to_skip_in(m: u32, came: u32, cause: Option<SwitchCause>, skip: u32, given: u32) -> u32
+fn to_skip_in(m: u32, arrived: u32, cause: Option<SwitchCause>, skip: u32, emitted: u32) -> u32
     requires few { m ≤ MOST_SLOTS }
-    requires came { came < m }
-    requires given { given < m }
-    ensures { result ≡ to_skip_by m came cause skip given }
+    requires arrived { arrived < m }
+    requires emitted { emitted < m }
+    ensures { result ≡ to_skip_by m arrived cause skip emitted }
 {
     match cause {
         None => skip,
-        Some(_) => (given + (m - came)) % m,
+        Some(_) => (emitted + (m - arrived)) % m,
     }
 }
 

@@ -54,7 +54,7 @@ carried_lost plan first last old new asked now takings numbers left wrote each =
   takings = takings;
   numbers = numbers;
   left = left;
-  wrote = record { went = wrote.0; part = wrote.1; gained = wrote.2.got };
+  wrote = record { written = wrote.0; part = wrote.1; gained = wrote.2.got };
   later = (take wrote.0 (report_text plan numbers last), wrote.2);
   counts = record { fault = λ e. wrote.3; calm = λ no. absurd (no refl) };
   ends = tt;

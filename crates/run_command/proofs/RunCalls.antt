@@ -8,7 +8,7 @@ use Rattle.plan_file.specs.declared.plan.Plan.{Plan}
 use Rattle.plan_file.proofs.Sounds.{accepted_text}
 use Rattle.device_model.specs.Inputs.{AreInputs}
 use Rattle.device_model.specs.Through.{Inputs}
-use Rattle.run_laws.specs.GivenRuns.{HasGiven}
+use Rattle.run_laws.specs.GivenRuns.{HasEmitted}
 use Rattle.device_model.specs.RunLeft.{MayBeInputs}
 use Rattle.run_laws.specs.RunsAlike.{IsWorld, ShareOne, LeftAlike}
 use Rattle.run_laws.specs.RunsThrough.{LeftThrough, CarriedIn}
@@ -37,13 +37,13 @@ same_answer answer one other e f = cc
 
 carried_plan : (text : List ℕ) (plan : Plan) (old new : Device) (asked now : ℕ) (reply : Status) → plan_of_text text ≡ Ok plan → PlanRan plan old new asked now reply
     → (planned : Plan) × (ran : PlanRan planned old new asked now reply) × (plan_of_text text ≡ Ok planned)
-    × ((inputs : Inputs) → HasGiven planned old.bays new.bays → AreInputs planned old.bays new.bays inputs → MayBeInputs planned old.bays new.bays ran.takings inputs)
+    × ((inputs : Inputs) → HasEmitted planned old.bays new.bays → AreInputs planned old.bays new.bays inputs → MayBeInputs planned old.bays new.bays ran.takings inputs)
 carried_plan text plan old new asked now reply is ran =
     (plan, ran, is, λ inputs has are. given_inputs plan old.bays new.bays ran.takings ran.numbers inputs ran.left has are)
 
 pub run_carries : (reply : Status) (old new : Device) (asked now : ℕ) → (answers : RunAnswers old new asked now reply) → CarriesPlan reply
     → (plan : Plan) × (ran : PlanRan plan old new asked now reply) × (plan_of_text answers.text ≡ Ok plan)
-    × ((inputs : Inputs) → HasGiven plan old.bays new.bays → AreInputs plan old.bays new.bays inputs → MayBeInputs plan old.bays new.bays ran.takings inputs)
+    × ((inputs : Inputs) → HasEmitted plan old.bays new.bays → AreInputs plan old.bays new.bays inputs → MayBeInputs plan old.bays new.bays ran.takings inputs)
 run_carries status.Done old new asked now h is = carried_plan h.text h.ran.0 old new asked now status.Done h.ran.1 h.ran.2
 run_carries status.Unfinished old new asked now h is = carried_plan h.text h.ran.0 old new asked now status.Unfinished h.ran.1 h.ran.2
 run_carries status.Cut old new asked now h is = carried_plan h.text h.ran.0 old new asked now status.Cut h.ran.1 h.ran.2

@@ -7,9 +7,9 @@ use Rattle.plan_file.specs.Answer.{plan_of_text}
 use Rattle.plan_file.specs.declared.connection.Connection.{Connection}
 use Rattle.plan_file.specs.declared.plan.Plan.{Plan}
 use Rattle.device_model.specs.Inputs.{AreInputs}
-use Rattle.device_model.specs.Numbers.{Went}
+use Rattle.device_model.specs.Numbers.{OutputBytes}
 use Rattle.device_model.specs.Through.{Inputs}
-use Rattle.run_laws.specs.GivenRuns.{HasGiven}
+use Rattle.run_laws.specs.GivenRuns.{HasEmitted}
 use Rattle.device_model.specs.RunLeft.{MayBeInputs}
 use Rattle.run_laws.specs.RunsAlike.{World, ShareOne, LeftAlike}
 use Rattle.run_laws.specs.RunsThrough.{LeftThrough, CarriedIn}
@@ -55,7 +55,7 @@ abbrev pub HasRunItsPlan : Type 0
 HasRunItsPlan = (old new : Device) (asked now : ℕ) (reply : Status) → (answers : RunAnswers old new asked now reply)
     → CarriesPlan reply
     → (plan : Plan) × (ran : PlanRan plan old new asked now reply) × (plan_of_text answers.text ≡ Ok plan)
-    × ((inputs : Inputs) → HasGiven plan old.bays new.bays → AreInputs plan old.bays new.bays inputs
+    × ((inputs : Inputs) → HasEmitted plan old.bays new.bays → AreInputs plan old.bays new.bays inputs
     → MayBeInputs plan old.bays new.bays ran.takings inputs)
 
 -- ---- what they left
@@ -71,8 +71,8 @@ world_of call has = record {
   inputs = call.inputs;
 }
 
-abbrev pub went_of : (call : Call) → HasCarried call → Went
-went_of call has = (has.ran.left.of_inputs call.inputs has.may_be).went
+abbrev pub went_of : (call : Call) → HasCarried call → OutputBytes
+went_of call has = (has.ran.left.of_inputs call.inputs has.may_be).written
 
 -- Isolated: where two calls share a connection, and their inputs agree on what it comes from, what leaves on it is the
 -- same as far as both have gone, whatever other connections, slots, ports, faults and orders there are.

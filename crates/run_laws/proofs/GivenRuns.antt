@@ -18,7 +18,7 @@ use Rattle.device_model.specs.Inputs.{AreInputs}
 use Rattle.device_model.specs.Moments.{touches, uses}
 use Rattle.device_model.specs.Report.{Numbers}
 use Rattle.device_model.specs.Through.{Inputs}
-use Rattle.run_laws.specs.GivenRuns.{HasGiven}
+use Rattle.run_laws.specs.GivenRuns.{HasEmitted}
 use Rattle.device_model.specs.LineAsked.{MayHave, InputLeft}
 use Rattle.device_model.specs.RunLeft.{Takings, MayBeInputs, RunLeft, RunOf}
 use Rattle.device_model.specs.RetiredPlaces.{after_retire}
@@ -53,70 +53,70 @@ parts_of : (xs ys : List ℕ) → Some xs ≡ Some ys → xs ≡ ys
 parts_of xs ys e = cc
 
 -- nothing was given where nothing was taken of a place that was not live
-none_follows : (more : Bool) (taken given : List ℕ) → taken ≡ [] → given ≡ [] → MayHave more taken given
-none_follows more taken given t g = record { rest = []; over = λ e. refl; parts = g ∙ sym t ∙ sym (append-nil taken) }
+none_follows : (more : Bool) (read available : List ℕ) → read ≡ [] → available ≡ [] → MayHave more read available
+none_follows more read available t g = record { rest = []; over = λ e. refl; parts = g ∙ sym t ∙ sym (append-nil read) }
 
 -- of one that died what was taken
-died_follows : (more : Bool) (taken given : List ℕ) (first now : Option (List ℕ)) → Took first now given → first ≡ before taken now → MayHave more taken given
-died_follows more taken given first now took left =
-    let e : Some (given ++ took.rest) ≡ Some (taken ++ took.rest) = sym took.had ∙ left ∙ ap (before taken) took.has in
-    record { rest = []; over = λ e. refl; parts = append_cancel_right given taken took.rest (parts_of (given ++ took.rest) (taken ++ took.rest) e) ∙ sym (append-nil taken) }
+died_follows : (more : Bool) (read available : List ℕ) (first now : Option (List ℕ)) → Took first now available → first ≡ before read now → MayHave more read available
+died_follows more read available first now took left =
+    let e : Some (available ++ took.rest) ≡ Some (read ++ took.rest) = sym took.had ∙ left ∙ ap (before read) took.has in
+    record { rest = []; over = λ e. refl; parts = append_cancel_right available read took.rest (parts_of (available ++ took.rest) (read ++ took.rest) e) ∙ sym (append-nil read) }
 
 -- of one that is live what was taken and what is left
-live_follows : (more : Bool) (taken given : List ℕ) (first now : Option (List ℕ)) (answered : Bool) → first ≡ Some given → first ≡ before taken now → (more ≡ false → HasEnded now answered) → MayHave more taken given
-live_follows more taken given first None answered told left ended = absurd (cc)
-live_follows more taken given first (Some rest) answered told left ended =
-    record { rest = rest; over = λ m. (ended m).nothing; parts = parts_of given (taken ++ rest) (sym told ∙ left) }
+live_follows : (more : Bool) (read available : List ℕ) (first now : Option (List ℕ)) (answered : Bool) → first ≡ Some available → first ≡ before read now → (more ≡ false → HasEnded now answered) → MayHave more read available
+live_follows more read available first None answered told left ended = absurd (cc)
+live_follows more read available first (Some rest) answered told left ended =
+    record { rest = rest; over = λ m. (ended m).nothing; parts = parts_of available (read ++ rest) (sym told ∙ left) }
 
 -- a place that was in this state, and is in that
-follows_by : (first last : InView) (taken : List ℕ) (more : Bool) (given : List ℕ) (was is : State) → first.state ≡ was → last.state ≡ is → InputLeft first last taken more
-    → given_between was is first.left last.left given → MayHave more taken given
-follows_by first last taken more given Live Dead f l left told = died_follows more taken given first.left last.left told left.gave.takes.left
-follows_by first last taken more given Live Live f l left told = live_follows more taken given first.left last.left last.ended told left.gave.takes.left (λ m. left.over m l)
-follows_by first last taken more given Live Empty f l left told = elim left.gave.state [ inl t ↦ absurd (cc (t.0, f, l)) | inr t ↦ absurd (cc (t.1, l)) ]
-follows_by first last taken more given Empty is f l left told = none_follows more taken given (left.gave.idle (λ e. cc)).1 told
-follows_by first last taken more given Dead is f l left told = none_follows more taken given (left.gave.idle (λ e. cc)).1 told
+follows_by : (first last : InView) (read : List ℕ) (more : Bool) (available : List ℕ) (was is : State) → first.state ≡ was → last.state ≡ is → InputLeft first last read more
+    → given_between was is first.left last.left available → MayHave more read available
+follows_by first last read more available Live Dead f l left told = died_follows more read available first.left last.left told left.gave.takes.left
+follows_by first last read more available Live Live f l left told = live_follows more read available first.left last.left last.ended told left.gave.takes.left (λ m. left.over m l)
+follows_by first last read more available Live Empty f l left told = elim left.gave.state [ inl t ↦ absurd (cc (t.0, f, l)) | inr t ↦ absurd (cc (t.1, l)) ]
+follows_by first last read more available Empty is f l left told = none_follows more read available (left.gave.idle (λ e. cc)).1 told
+follows_by first last read more available Dead is f l left told = none_follows more read available (left.gave.idle (λ e. cc)).1 told
 
-pub follows : (first last : InView) (taken : List ℕ) (more : Bool) (given : List ℕ) → InputLeft first last taken more → HadToGive first last given → MayHave more taken given
-follows first last taken more given left told = follows_by first last taken more given first.state last.state refl refl left told
+pub follows : (first last : InView) (read : List ℕ) (more : Bool) (available : List ℕ) → InputLeft first last read more → HadToGive first last available → MayHave more read available
+follows first last read more available left told = follows_by first last read more available first.state last.state refl refl left told
 
 -- ---- a client's place, which may be emptied at the end
 
 -- a live place that was emptied told the same
-emptied_told : (first was : InView) (taken : List ℕ) (more : Bool) (given : List ℕ) (state : State) → was.state ≡ state → InputLeft first was taken more
-    → given_between first.state (retired_in_as state was).state first.left (retired_in_as state was).left given → given_between first.state state first.left was.left given
-emptied_told first was taken more given Dead e left told = subst (λ s. given_between first.state s first.left was.left given) e told
-emptied_told first was taken more given Empty e left told = subst (λ s. given_between first.state s first.left was.left given) e told
-emptied_told first was taken more given Live e left told = go first.state refl told
+emptied_told : (first was : InView) (read : List ℕ) (more : Bool) (available : List ℕ) (state : State) → was.state ≡ state → InputLeft first was read more
+    → given_between first.state (retired_in_as state was).state first.left (retired_in_as state was).left available → given_between first.state state first.left was.left available
+emptied_told first was read more available Dead e left told = subst (λ s. given_between first.state s first.left was.left available) e told
+emptied_told first was read more available Empty e left told = subst (λ s. given_between first.state s first.left was.left available) e told
+emptied_told first was read more available Live e left told = go first.state refl told
   where
-    go : (s : State) → first.state ≡ s → given_between s Empty first.left no_input.left given → given_between s Live first.left was.left given
+    go : (s : State) → first.state ≡ s → given_between s Empty first.left no_input.left available → given_between s Live first.left was.left available
     go Live f t = t
     go Empty f t = t
     go Dead f t = t
 
-was_given : (retires : Bool) (first was last : InView) (taken : List ℕ) (more : Bool) (given : List ℕ) → InputLeft first was taken more → last ≡ after_retire retires was → HadToGive first last given → HadToGive first was given
-was_given false first was last taken more given left place told = subst (λ v. HadToGive first v given) place told
-was_given true first was last taken more given left place told =
-    let t : HadToGive first (retired_in was) given = subst (λ v. HadToGive first v given) place told in
-    emptied_told first was taken more given was.state refl left t
+was_given : (retires : Bool) (first was last : InView) (read : List ℕ) (more : Bool) (available : List ℕ) → InputLeft first was read more → last ≡ after_retire retires was → HadToGive first last available → HadToGive first was available
+was_given false first was last read more available left place told = subst (λ v. HadToGive first v available) place told
+was_given true first was last read more available left place told =
+    let t : HadToGive first (retired_in was) available = subst (λ v. HadToGive first v available) place told in
+    emptied_told first was read more available was.state refl left t
 
 -- ---- all inputs
 
 -- what a line had to give may have been what its bytes were taken of
-pub line_had : (plan : Plan) (first last : BaysView) (takings : Takings) (numbers : Numbers) (a : ℕ) (given : List ℕ) → RunLeft plan first last takings numbers → uses plan (port.LineIn a) ≡ true
-    → HadToGive (line_in_at first a) (line_in_at last a) given → MayHave (takings.line_more a) (takings.line a) given
-line_had plan first last takings numbers a given left used had =
-    follows (line_in_at first a) (line_in_at last a) (takings.line a) (takings.line_more a) given (left.line_in a used) had
+pub line_had : (plan : Plan) (first last : BaysView) (takings : Takings) (numbers : Numbers) (a : ℕ) (available : List ℕ) → RunLeft plan first last takings numbers → uses plan (port.LineIn a) ≡ true
+    → HadToGive (line_in_at first a) (line_in_at last a) available → MayHave (takings.line_more a) (takings.line a) available
+line_had plan first last takings numbers a available left used had =
+    follows (line_in_at first a) (line_in_at last a) (takings.line a) (takings.line_more a) available (left.line_in a used) had
 
 -- so of a client of a connection
-pub client_had : (plan : Plan) (first last : BaysView) (takings : Takings) (numbers : Numbers) (x : Connection) (n : ℕ) (given : List ℕ) → RunLeft plan first last takings numbers
-    → Contains plan.connections x → x.from ≡ from_end.Client n → HadToGive (client_in_at first n) (client_in_at last n) given → MayHave (takings.client_more n) (takings.client n) given
-client_had plan first last takings numbers x n given left has from had =
+pub client_had : (plan : Plan) (first last : BaysView) (takings : Takings) (numbers : Numbers) (x : Connection) (n : ℕ) (available : List ℕ) → RunLeft plan first last takings numbers
+    → Contains plan.connections x → x.from ≡ from_end.Client n → HadToGive (client_in_at first n) (client_in_at last n) available → MayHave (takings.client_more n) (takings.client n) available
+client_had plan first last takings numbers x n available left has from had =
     let l = left.client_in x n has from in
-    follows (client_in_at first n) l.was (takings.client n) (takings.client_more n) given l.left
-    (was_given x.retire (client_in_at first n) l.was (client_in_at last n) (takings.client n) (takings.client_more n) given l.left l.place had)
+    follows (client_in_at first n) l.was (takings.client n) (takings.client_more n) available l.left
+    (was_given x.retire (client_in_at first n) l.was (client_in_at last n) (takings.client n) (takings.client_more n) available l.left l.place had)
 
-pub given_inputs : (plan : Plan) (first last : BaysView) (takings : Takings) (numbers : Numbers) (inputs : Inputs) → RunLeft plan first last takings numbers → HasGiven plan first last
+pub given_inputs : (plan : Plan) (first last : BaysView) (takings : Takings) (numbers : Numbers) (inputs : Inputs) → RunLeft plan first last takings numbers → HasEmitted plan first last
     → AreInputs plan first last inputs → MayBeInputs plan first last takings inputs
 given_inputs plan first last takings numbers inputs left has are = record {
   line = λ a used.
@@ -128,6 +128,6 @@ given_inputs plan first last takings numbers inputs left has are = record {
       (g.0, client_had plan first last takings numbers x.0 n g.0 left x.1 x.2 g.1, are.client n g.0 used g.1);
 }
 
-pub of_given : (plan : Plan) (first last : BaysView) (takings : Takings) (numbers : Numbers) (inputs : Inputs) → RunLeft plan first last takings numbers → HasGiven plan first last
+pub of_given : (plan : Plan) (first last : BaysView) (takings : Takings) (numbers : Numbers) (inputs : Inputs) → RunLeft plan first last takings numbers → HasEmitted plan first last
     → AreInputs plan first last inputs → RunOf plan first last takings numbers inputs
 of_given plan first last takings numbers inputs left has are = left.of_inputs inputs (given_inputs plan first last takings numbers inputs left has are)

@@ -45,8 +45,8 @@ one_front (x ∷ xs) r (y ∷ ys) s e =
       | inr t ↦ inr (t.0, ap (λ l. y ∷ l) t.1 ∙ ap (λ a. a ∷ xs) (sym head))
     ]
 
-pub all_of : (went rest due : List ℕ) → went ++ rest ≡ due → rest ≡ [] → went ≡ due
-all_of went rest due parts none = sym (append-nil went) ∙ sym (ap (λ r. went ++ r) none) ∙ parts
+pub all_of : (sent rest due : List ℕ) → sent ++ rest ≡ due → rest ≡ [] → sent ≡ due
+all_of sent rest due parts none = sym (append-nil sent) ∙ sym (ap (λ r. sent ++ r) none) ∙ parts
 
 -- ---- a place that has lived
 
@@ -112,15 +112,15 @@ byte_in f place xs ys less =
     let rest : place < length (drop (16320 * f) xs) = omega (arith, length-drop (16320 * f) xs) in
     front_byte 16320 place (drop (16320 * f) xs) ys rest ∙ sym (ap (λ l. slice_index (take 16320 l) place) (drop-append-le (16320 * f) xs ys (omega arith)))
 
-run_at : (world : World) (b : ℕ) (went : List ℕ) → LineOutLeft world.plan world.inputs b (line_out_at world.first b) went (line_out_at world.last b) → FiledRun
-run_at world b went l = record { plan = world.plan; inputs = world.inputs; frames = l.is_due.frames }
+run_at : (world : World) (b : ℕ) (sent : List ℕ) → LineOutLeft world.plan world.inputs b (line_out_at world.first b) sent (line_out_at world.last b) → FiledRun
+run_at world b sent l = record { plan = world.plan; inputs = world.inputs; frames = l.is_due.frames }
 
 -- a byte of what went is that of the file
-went_byte : (world : World) (b f row column : ℕ) (went : List ℕ) (l : LineOutLeft world.plan world.inputs b (line_out_at world.first b) went (line_out_at world.last b)) → HasGone went f row column
-    → HaveSameByte went (written (run_at world b went l) b) f row column
+went_byte : (world : World) (b f row column : ℕ) (sent : List ℕ) (l : LineOutLeft world.plan world.inputs b (line_out_at world.first b) sent (line_out_at world.last b)) → HasGone sent f row column
+    → HaveSameByte sent (written (run_at world b sent l) b) f row column
 unfolding run_at
-went_byte world b f row column went l has =
-    byte_in f (place_of 4080 row column) went l.left.rest has ∙ ap (λ bytes. byte_at (frame_at bytes f) row column) (l.left.parts ∙ l.is_due.bytes)
+went_byte world b f row column sent l has =
+    byte_in f (place_of 4080 row column) sent l.left.rest has ∙ ap (λ bytes. byte_at (frame_at bytes f) row column) (l.left.parts ∙ l.is_due.bytes)
 
 frame_made : (past n size turns : ℕ) → past < turns → n < size → size * past + n < size * turns + 0
 frame_made past n size turns p l =
@@ -128,10 +128,10 @@ frame_made past n size turns p l =
     omega (arith, mul_comm size past)
 
 -- frame n of the turn is one of the file
-has_frame : (world : World) (x : Connection) (b number past n row column : ℕ) (slots : LineSlots) (went : List ℕ) → IsWorld world → Contains world.plan.connections x → HasPlace x b number past n row column slots
-    → (l : LineOutLeft world.plan world.inputs b (line_out_at world.first b) went (line_out_at world.last b)) → HasFrame (run_at world b went l) x b number past n slots
+has_frame : (world : World) (x : Connection) (b number past n row column : ℕ) (slots : LineSlots) (sent : List ℕ) → IsWorld world → Contains world.plan.connections x → HasPlace x b number past n row column slots
+    → (l : LineOutLeft world.plan world.inputs b (line_out_at world.first b) sent (line_out_at world.last b)) → HasFrame (run_at world b sent l) x b number past n slots
 unfolding run_at
-has_frame world x b number past n row column slots went is has place l =
+has_frame world x b number past n row column slots sent is has place l =
     let sound = sound_in world x is has in
     let same : slots_of slots.kind ≡ size_of (form_out world.plan b) = ap slots_of (sound.to_line b number slots place.to).kind in
     let stop = sound.stop in
@@ -150,30 +150,30 @@ frame_gone : (f place size : ℕ) → f < size / 16320 → place < 16320 → 163
 frame_gone f place size less inner = omega arith
 
 -- where the line has lived all frames of the plan's turns went whole
-pub line_lived : (world : World) (b : ℕ) (went : List ℕ) (l : LineOutLeft world.plan world.inputs b (line_out_at world.first b) went (line_out_at world.last b))
-    → HasLived (line_out_at world.first b).state (line_out_at world.last b).state → whole_frames went ≡ size_of (form_out world.plan b) * world.plan.turns + 0
-line_lived world b went l lived =
+pub line_lived : (world : World) (b : ℕ) (sent : List ℕ) (l : LineOutLeft world.plan world.inputs b (line_out_at world.first b) sent (line_out_at world.last b))
+    → HasLived (line_out_at world.first b).state (line_out_at world.last b).state → whole_frames sent ≡ size_of (form_out world.plan b) * world.plan.turns + 0
+line_lived world b sent l lived =
     let live = lived_on (line_out_at world.first b) (line_out_at world.last b) l.left.gained.state lived.was lived.is in
-    let all : went ≡ through_mask (form_out world.plan b).scrambled (concat l.is_due.frames) = all_of went l.left.rest l.due l.left.parts (l.left.whole live) ∙ l.is_due.bytes in
+    let all : sent ≡ through_mask (form_out world.plan b).scrambled (concat l.is_due.frames) = all_of sent l.left.rest l.due l.left.parts (l.left.whole live) ∙ l.is_due.bytes in
     ap whole_frames all ∙ ap (λ n. n / 16320) (length_through (form_out world.plan b).scrambled (concat l.is_due.frames))
     ∙ made_whole world.plan world.inputs b (size_of (form_out world.plan b) * world.plan.turns + 0) l.is_due.frames l.is_due.file
 
-pub all_gone : (world : World) (x : Connection) (b number past n row column : ℕ) (slots : LineSlots) (went : List ℕ) → IsWorld world → Contains world.plan.connections x → HasPlace x b number past n row column slots
-    → LineOutLeft world.plan world.inputs b (line_out_at world.first b) went (line_out_at world.last b)
-    → HasLived (line_out_at world.first b).state (line_out_at world.last b).state → HasGone went (slots_of slots.kind * past + n) row column
-all_gone world x b number past n row column slots went is has place l lived =
+pub all_gone : (world : World) (x : Connection) (b number past n row column : ℕ) (slots : LineSlots) (sent : List ℕ) → IsWorld world → Contains world.plan.connections x → HasPlace x b number past n row column slots
+    → LineOutLeft world.plan world.inputs b (line_out_at world.first b) sent (line_out_at world.last b)
+    → HasLived (line_out_at world.first b).state (line_out_at world.last b).state → HasGone sent (slots_of slots.kind * past + n) row column
+all_gone world x b number past n row column slots sent is has place l lived =
     let sound = sound_in world x is has in
     let same : slots_of slots.kind ≡ size_of (form_out world.plan b) = ap slots_of (sound.to_line b number slots place.to).kind in
     let stop = sound.stop in
     let active = place.active.stop in
     let frame = place.frame in
-    let whole = line_lived world b went l lived in
+    let whole = line_lived world b sent l lived in
     let made = frame_made past n (size_of (form_out world.plan b)) world.plan.turns (omega arith) (omega arith) in
     let size = ap (λ s. s * past + n) same in
     let f = slots_of slots.kind * past + n in
     let inner : place_of 4080 row column < 16320 = inside (tributary_of slots number) n (f % 256) row column place.own in
-    let less : f < whole_frames went = omega arith in
-    frame_gone f (place_of 4080 row column) (length went) less inner
+    let less : f < whole_frames written = omega arith in
+    frame_gone f (place_of 4080 row column) (length sent) less inner
 
 -- ---- both
 
@@ -207,14 +207,14 @@ same_whole : (one other : World) (x : Connection) (first : IsWorld one) (second 
 same_whole one other x first second share n to lived =
     text_lived one x n first share.first to lived.first ∙ same_due one other x first second share ∙ sym (text_lived other x n second share.second to lived.second)
 
-same_bytes : (one other : World) (x : Connection) (b number past n row column : ℕ) (slots : LineSlots) (went others : List ℕ)
-    (l : LineOutLeft one.plan one.inputs b (line_out_at one.first b) went (line_out_at one.last b)) (r : LineOutLeft other.plan other.inputs b (line_out_at other.first b) others (line_out_at other.last b))
-    → HaveFrame (run_at one b went l) (run_at other b others r) x b number past n row column slots
+same_bytes : (one other : World) (x : Connection) (b number past n row column : ℕ) (slots : LineSlots) (sent others : List ℕ)
+    (l : LineOutLeft one.plan one.inputs b (line_out_at one.first b) sent (line_out_at one.last b)) (r : LineOutLeft other.plan other.inputs b (line_out_at other.first b) others (line_out_at other.last b))
+    → HaveFrame (run_at one b sent l) (run_at other b others r) x b number past n row column slots
     → got_by x (own_input one.inputs x) (own_turn x past + 1) ≡ got_by x (own_input other.inputs x) (own_turn x past + 1)
-    → (form_out one.plan b).scrambled ≡ (form_out other.plan b).scrambled → HaveSameByte (written (run_at one b went l) b) (written (run_at other b others r) b) (slots_of slots.kind * past + n) row column
+    → (form_out one.plan b).scrambled ≡ (form_out other.plan b).scrambled → HaveSameByte (written (run_at one b sent l) b) (written (run_at other b others r) b) (slots_of slots.kind * past + n) row column
 unfolding run_at
-same_bytes one other x b number past n row column slots went others l r have same mask =
-    writes_as_got (run_at one b went l) (run_at other b others r) x b number past n row column slots have same mask
+same_bytes one other x b number past n row column slots sent others l r have same mask =
+    writes_as_got (run_at one b sent l) (run_at other b others r) x b number past n row column slots have same mask
 
 -- where the same was got up to the turn, its frames have the same bytes at the own places
 pub places_as_got : (one other : World) (x : Connection) (first : IsWorld one) (second : IsWorld other) → Contains one.plan.connections x → Contains other.plan.connections x → (b number past n row column : ℕ) (slots : LineSlots)
@@ -222,7 +222,7 @@ pub places_as_got : (one other : World) (x : Connection) (first : IsWorld one) (
     → (form_out one.plan b).scrambled ≡ (form_out other.plan b).scrambled
     → HasGone ((went_out one first).line b) (slots_of slots.kind * past + n) row column → HasGone ((went_out other second).line b) (slots_of slots.kind * past + n) row column
     → HaveSameByte ((went_out one first).line b) ((went_out other second).line b) (slots_of slots.kind * past + n) row column
-places_as_got one other x first second has has_too b number past n row column slots place same mask went others =
+places_as_got one other x first second has has_too b number past n row column slots place same mask sent others =
     let f = slots_of slots.kind * past + n in
     let l = line_left one x b number slots first has place.to in
     let r = line_left other x b number slots second has_too place.to in
@@ -232,7 +232,7 @@ places_as_got one other x first second has has_too b number past n row column sl
       frame = place.frame;
       own = place.own;
     } in
-    went_byte one b f row column ((went_out one first).line b) l went
+    went_byte one b f row column ((went_out one first).line b) l sent
     ∙ same_bytes one other x b number past n row column slots ((went_out one first).line b) ((went_out other second).line b) l r have same mask
     ∙ sym (went_byte other b f row column ((went_out other second).line b) r others)
 
@@ -240,18 +240,18 @@ same_places : (one other : World) (x : Connection) (first : IsWorld one) (second
     → HasPlace x b number past n row column slots → (form_out one.plan b).scrambled ≡ (form_out other.plan b).scrambled
     → HasGone ((went_out one first).line b) (slots_of slots.kind * past + n) row column → HasGone ((went_out other second).line b) (slots_of slots.kind * past + n) row column
     → HaveSameByte ((went_out one first).line b) ((went_out other second).line b) (slots_of slots.kind * past + n) row column
-same_places one other x first second share b number past n row column slots place mask went others =
+same_places one other x first second share b number past n row column slots place mask sent others =
     let sound = sound_in one x first share.first in
     let start = sound.start in
     let began = place.active.start in
     let stop = place.active.stop in
-    places_as_got one other x first second share.first share.second b number past n row column slots place (share.alike.got (own_turn x past + 1) (omega arith)) mask went others
+    places_as_got one other x first second share.first share.second b number past n row column slots place (share.alike.got (own_turn x past + 1) (omega arith)) mask sent others
 
 -- ---- numbers
 
-same_output : {was is : State} {arrived others went sent : List ℕ} → was ≡ is → arrived ≡ others → went ≡ sent → output_numbers was arrived went ≡ output_numbers is others sent
-same_output {was} {is} {arrived} {others} {went} {sent} a b c =
-    ap (λ s. output_numbers s arrived went) a ∙ ap (λ l. output_numbers is l went) b ∙ ap (output_numbers is others) c
+same_output : {was is : State} {arrived others sent sent : List ℕ} → was ≡ is → arrived ≡ others → sent ≡ sent → output_numbers was arrived sent ≡ output_numbers is others sent
+same_output {was} {is} {arrived} {others} {sent} {sent} a b c =
+    ap (λ s. output_numbers s arrived sent) a ∙ ap (λ l. output_numbers is l sent) b ∙ ap (output_numbers is others) c
 
 same_client_in : (one other : World) (x : Connection) (first : IsWorld one) (second : IsWorld other) → CarryAlike one other x → (n : ℕ) → x.from ≡ from_end.Client n → one.numbers.client_in n ≡ other.numbers.client_in n
 same_client_in one other x first second share n from =
@@ -270,9 +270,9 @@ same_client_out one other x first second share n to lived =
     let b = (second.left.of_inputs other.inputs second.may_be).numbers_are.client_out x n share.second to in
     let same = share.alike.arrived (x.stop - first_turn x) (own_all one x first share.first) in
     let arrived = arrived_in one x first share.first ∙ same ∙ sym (arrived_in other x second share.second) in
-    let went = same_whole one other x first second share n to lived in
+    let written = same_whole one other x first second share n to lived in
     let state : (client_out_at one.first n).state ≡ (client_out_at other.first n).state = lived.first.was ∙ sym lived.second.was in
-    a ∙ same_output state arrived went ∙ sym b
+    a ∙ same_output state arrived sent ∙ sym b
 
 same_turn : (a b : ℕ) → (a == b) ≡ true → a ≡ b
 same_turn a b e = grind (arith, nat_tests)

@@ -65,8 +65,8 @@ client_front world x n is has to =
 no_more : (n : ℕ) → n + 0 ≡ n
 no_more n = omega arith
 
-line_front : (world : World) (b : ℕ) (went : List ℕ) → LineOutLeft world.plan world.inputs b (line_out_at world.first b) went (line_out_at world.last b) → FileWent world b went
-line_front world b went l = record {
+line_front : (world : World) (b : ℕ) (written : List ℕ) → LineOutLeft world.plan world.inputs b (line_out_at world.first b) written (line_out_at world.last b) → FileWent world b written
+line_front world b written l = record {
   frames = l.is_due.frames;
   file = subst (λ n. IsLineFile world.plan world.inputs b n l.is_due.frames) (no_more (size_of (form_out world.plan b) * world.plan.turns)) l.is_due.file;
   front = record {
@@ -87,14 +87,14 @@ left_through world x is has = record {
 -- ---- what a line carries
 
 -- what is read of a line that has lived is its file
-pub read_back : (world : World) (b : ℕ) (went : List ℕ) (f : FileWent world b went) → LivedIn world (state_of_line b) → through_mask (form_out world.plan b).scrambled went ≡ concat f.frames
-read_back world b went f lived =
+pub read_back : (world : World) (b : ℕ) (written : List ℕ) (f : FileWent world b written) → LivedIn world (state_of_line b) → through_mask (form_out world.plan b).scrambled written ≡ concat f.frames
+read_back world b written f lived =
     let s = (form_out world.plan b).scrambled in
-    ap (through_mask s) (all_of went f.front.rest (through_mask s (concat f.frames)) f.front.parts (f.front.whole lived)) ∙ twice s (concat f.frames)
+    ap (through_mask s) (all_of written f.front.rest (through_mask s (concat f.frames)) f.front.parts (f.front.whole lived)) ∙ twice s (concat f.frames)
 
-pub made_to : (world : World) (x : Connection) (b u : ℕ) (went : List ℕ) → IsWorld world → Contains world.plan.connections x → (f : FileWent world b went) → u < x.stop
+pub made_to : (world : World) (x : Connection) (b u : ℕ) (written : List ℕ) → IsWorld world → Contains world.plan.connections x → (f : FileWent world b written) → u < x.stop
     → IsMadeTo world.plan world.inputs x b u f.frames
-made_to world x b u went is has f less =
+made_to world x b u written is has f less =
     let stop = (sound_in world x is has).stop in
     record {
       count = size_of (form_out world.plan b) * world.plan.turns;

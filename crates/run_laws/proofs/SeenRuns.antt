@@ -55,30 +55,30 @@ use Rattle.device_model.proofs.ConnectionPorts.{from_line_used, one_passes}
 of_one : (xs ys : List ℕ) → Some xs ≡ Some ys → xs ≡ ys
 of_one xs ys e = cc
 
-grew_by : (first last : Option (List ℕ)) (went left : List ℕ) → last ≡ after first left → Grew first last went → went ≡ left
-grew_by first last went left e k =
-    append_cancel_left k.before went left
-    (of_one (k.before ++ went) (k.before ++ left) (sym k.has ∙ e ∙ ap (λ got. after got left) k.had))
+grew_by : (first last : Option (List ℕ)) (written left : List ℕ) → last ≡ after first left → Grew first last written → written ≡ left
+grew_by first last written left e k =
+    append_cancel_left k.before written left
+    (of_one (k.before ++ written) (k.before ++ left) (sym k.has ∙ e ∙ ap (λ got. after got left) k.had))
 
-by_states : (was is : State) (first last : OutView) (all left went : List ℕ) → first.state ≡ was → last.state ≡ is → IsFrontOf first last all left → gone_between was is first.got last.got went → went ≡ left
-by_states Live Live first last all left went f l front k = grew_by first.got last.got went left (front.got f (λ e. cc)) k
-by_states Live Dead first last all left went f l front k = grew_by first.got last.got went left (front.got f (λ e. cc)) k
-by_states Live Empty first last all left went f l front k = absurd k
-by_states Empty is first last all left went f l front k = k ∙ sym (front.idle (λ e. cc))
-by_states Dead is first last all left went f l front k = k ∙ sym (front.idle (λ e. cc))
+by_states : (was is : State) (first last : OutView) (all left written : List ℕ) → first.state ≡ was → last.state ≡ is → IsFrontOf first last all left → gone_between was is first.got last.got written → written ≡ left
+by_states Live Live first last all left written f l front k = grew_by first.got last.got written left (front.got f (λ e. cc)) k
+by_states Live Dead first last all left written f l front k = grew_by first.got last.got written left (front.got f (λ e. cc)) k
+by_states Live Empty first last all left written f l front k = absurd k
+by_states Empty is first last all left written f l front k = k ∙ sym (front.idle (λ e. cc))
+by_states Dead is first last all left written f l front k = k ∙ sym (front.idle (λ e. cc))
 
-got_is : (first last : OutView) (all left went : List ℕ) → IsFrontOf first last all left → IsGone first last went → went ≡ left
-got_is first last all left went front k = by_states first.state last.state first last all left went refl refl front k
+got_is : (first last : OutView) (all left written : List ℕ) → IsFrontOf first last all left → IsGone first last written → written ≡ left
+got_is first last all left written front k = by_states first.state last.state first last all left written refl refl front k
 
 -- ---- what the inputs may have been
 
 -- a line and a client that may have been
 abbrev MayLine : Run → Takings → (a : ℕ) → (line : List ℕ) → Type 0
-MayLine run takings a line = (given : List ℕ) × MayHave (takings.line_more a) (takings.line a) given × (line ≡ through_mask (form_in run.plan a).scrambled given)
+MayLine run takings a line = (available : List ℕ) × MayHave (takings.line_more a) (takings.line a) available × (line ≡ through_mask (form_in run.plan a).scrambled available)
 
 abbrev MayClient : Run → Takings → (n : ℕ) → ClientInput → Type 0
-MayClient run takings n input = (given : List ℕ) × MayHave (takings.client_more n) (takings.client n) given
-    × (input ≡ input_given (has_died (client_in_at run.before n).state (client_in_at run.after n).state) given)
+MayClient run takings n input = (available : List ℕ) × MayHave (takings.client_more n) (takings.client n) available
+    × (input ≡ input_given (has_died (client_in_at run.before n).state (client_in_at run.after n).state) available)
 
 -- inputs that may have been
 abbrev MayBe : Run → Takings → Inputs → Type 0
@@ -91,8 +91,8 @@ taken_inputs run takings = record {
   client = λ n. input_given (has_died (client_in_at run.before n).state (client_in_at run.after n).state) (takings.client n);
 }
 
-all_taken : (more : Bool) (taken : List ℕ) → MayHave more taken taken
-all_taken more taken = record { rest = []; over = λ e. refl; parts = sym (append-nil taken) }
+all_taken : (more : Bool) (read : List ℕ) → MayHave more read read
+all_taken more read = record { rest = []; over = λ e. refl; parts = sym (append-nil read) }
 
 taken_may : (run : Run) (takings : Takings) → MayBe run takings (taken_inputs run takings)
 taken_may run takings = record {
@@ -144,7 +144,7 @@ own_line_may run is x a number slots line has from gave =
     let at = slice_get_read run.plan.connections (length run.plan.connections) has.0 x refl has.1 (sym has.2) in
     let used = from_line_used run.plan has.0 a number slots x at from in
     with_line_may run is.takings a line (taken_inputs run is.takings) (taken_may run is.takings)
-    (gave.given, line_had run.plan run.before run.after is.takings is.numbers a gave.given is.left used gave.had, gave.frames)
+    (gave.available, line_had run.plan run.before run.after is.takings is.numbers a gave.available is.left used gave.had, gave.frames)
 
 abbrev own_client_inputs : (run : Run) → IsRun run → (n : ℕ) → ClientInput → Inputs
 own_client_inputs run is n input = with_client n input (taken_inputs run is.takings)
@@ -153,7 +153,7 @@ own_client_may : (run : Run) (is : IsRun run) (x : Connection) (n : ℕ) (input 
     → MayBe run is.takings (own_client_inputs run is n input)
 own_client_may run is x n input has from gave =
     with_client_may run is.takings n input (taken_inputs run is.takings) (taken_may run is.takings)
-    (gave.given, client_had run.plan run.before run.after is.takings is.numbers x n gave.given is.left has from gave.had, gave.packets)
+    (gave.available, client_had run.plan run.before run.after is.takings is.numbers x n gave.available is.left has from gave.had, gave.packets)
 
 -- ---- the run, as one of these inputs
 
@@ -164,16 +164,16 @@ abbrev is_world : (run : Run) (is : IsRun run) (inputs : Inputs) → MayBe run i
 is_world run is inputs may = record { accepted = is.accepted; left = is.left; may_be = may }
 
 -- what its line got, in a world of the run
-line_got : (world : World) (x : Connection) (is : IsWorld world) → Contains world.plan.connections x → (b number : ℕ) (slots : LineSlots) (went : List ℕ) → x.to ≡ to_end.Line b number slots
-    → IsGone (line_out_at world.first b) (line_out_at world.last b) went → went ≡ (went_out world is).line b
-line_got world x is has b number slots went to got =
+line_got : (world : World) (x : Connection) (is : IsWorld world) → Contains world.plan.connections x → (b number : ℕ) (slots : LineSlots) (written : List ℕ) → x.to ≡ to_end.Line b number slots
+    → IsGone (line_out_at world.first b) (line_out_at world.last b) written → written ≡ (went_out world is).line b
+line_got world x is has b number slots written to got =
     let file = (left_through world x is has).line b number slots to in
-    got_is (line_out_at world.first b) (line_out_at world.last b) (through_mask (form_out world.plan b).scrambled (concat file.frames)) ((went_out world is).line b) went file.front got
+    got_is (line_out_at world.first b) (line_out_at world.last b) (through_mask (form_out world.plan b).scrambled (concat file.frames)) ((went_out world is).line b) written file.front got
 
-client_got : (world : World) (x : Connection) (is : IsWorld world) → Contains world.plan.connections x → (n : ℕ) (went : List ℕ) → x.to ≡ to_end.Client n
-    → IsGone (client_out_at world.first n) (client_out_at world.last n) went → went ≡ (went_out world is).client n
-client_got world x is has n went to got =
-    got_is (client_out_at world.first n) (client_out_at world.last n) (text_by x (own_input world.inputs x) (x.stop - first_turn x)) ((went_out world is).client n) went
+client_got : (world : World) (x : Connection) (is : IsWorld world) → Contains world.plan.connections x → (n : ℕ) (written : List ℕ) → x.to ≡ to_end.Client n
+    → IsGone (client_out_at world.first n) (client_out_at world.last n) written → written ≡ (went_out world is).client n
+client_got world x is has n written to got =
+    got_is (client_out_at world.first n) (client_out_at world.last n) (text_by x (own_input world.inputs x) (x.stop - first_turn x)) ((went_out world is).client n) written
     ((left_through world x is has).client n to) got
 
 -- ---- two runs
@@ -224,18 +224,18 @@ seen_alike one other x first second share =
     let through = left_through mine x is share.first in
     let through_too = left_through theirs x is_too share.second in
     record {
-      client = λ n went others to got got_too.
+      client = λ n written others to got got_too.
           let all = text_by x (own_input w.mine x) (x.stop - first_turn x) in
           let all_too = text_by x (own_input w.theirs x) (x.stop - first_turn x) in
-          let e = got_is (client_out_at one.before n) (client_out_at one.after n) all ((went_out mine is).client n) went (through.client n to) got in
+          let e = got_is (client_out_at one.before n) (client_out_at one.after n) all ((went_out mine is).client n) written (through.client n to) got in
           let f = got_is (client_out_at other.before n) (client_out_at other.after n) all_too ((went_out theirs is_too).client n) others (through_too.client n to) got_too in
           subst (λ l. SameText one other n l others) (sym e)
           (subst (λ l. SameText one other n ((went_out mine is).client n) l) (sym f)
           (record { front = left.text n to; whole = λ l m. left.whole_text n to (record { first = l; second = m }) }));
-      line = λ b number past n row column slots went others place mask got got_too.
+      line = λ b number past n row column slots written others place mask got got_too.
           let file = through.line b number slots place.to in
           let file_too = through_too.line b number slots place.to in
-          let e = got_is (line_out_at one.before b) (line_out_at one.after b) (through_mask (form_out one.plan b).scrambled (concat file.frames)) ((went_out mine is).line b) went file.front got in
+          let e = got_is (line_out_at one.before b) (line_out_at one.after b) (through_mask (form_out one.plan b).scrambled (concat file.frames)) ((went_out mine is).line b) written file.front got in
           let f = got_is (line_out_at other.before b) (line_out_at other.after b) (through_mask (form_out other.plan b).scrambled (concat file_too.frames)) ((went_out theirs is_too).line b) others file_too.front got_too in
           let at = slots_of slots.kind * past + n in
           subst (λ l. SameOnLine one other b at row column l others) (sym e)
@@ -293,8 +293,8 @@ not_ahead n one other x first second share =
     let theirs = world_of other second w.theirs in
     let alike = looks_not_ahead x n (own_input w.mine x) (own_input w.theirs x) (shows_the_same_up_to one.plan x n w.mine w.theirs first.accepted share.first w.agree) in
     record {
-      line = λ b number past k row column slots went others place mask so_far got got_too.
-          let e = line_got mine x is share.first b number slots went place.to got in
+      line = λ b number past k row column slots written others place mask so_far got got_too.
+          let e = line_got mine x is share.first b number slots written place.to got in
           let f = line_got theirs x is_too share.second b number slots others place.to got_too in
           let at = slots_of slots.kind * past + k in
           let same = alike.got (own_turn x past + 1) (omega (arith, so_far)) in
@@ -330,16 +330,16 @@ shown run is x (from_end.Client n) own e has (input, gave, same) = record {
 }
 shown run is x (from_end.Signal signal) own e has same = record { inputs = taken_inputs run is.takings; may = taken_may run is.takings; own_is = same }
 
-text_through : (run : Run) (x : Connection) → IsRun run → Contains run.plan.connections x → (n : ℕ) (own : OwnInput) (went : List ℕ) → x.to ≡ to_end.Client n → Shows run x.from own → ClientGot run n went
-    → IsFrontOf (client_out_at run.before n) (client_out_at run.after n) (text_by x own (x.stop - first_turn x)) went
-text_through run x is has n own went to shows got =
+text_through : (run : Run) (x : Connection) → IsRun run → Contains run.plan.connections x → (n : ℕ) (own : OwnInput) (written : List ℕ) → x.to ≡ to_end.Client n → Shows run x.from own → ClientGot run n written
+    → IsFrontOf (client_out_at run.before n) (client_out_at run.after n) (text_by x own (x.stop - first_turn x)) written
+text_through run x is has n own written to shows got =
     let s = shown run is x x.from own refl has shows in
     let world = world_of run is s.inputs in
     let in_world = is_world run is s.inputs s.may in
     let all = text_by x (own_input s.inputs x) (x.stop - first_turn x) in
     let front = (left_through world x in_world has).client n to in
-    let e = got_is (client_out_at run.before n) (client_out_at run.after n) all ((went_out world in_world).client n) went front got in
-    subst (λ o. IsFrontOf (client_out_at run.before n) (client_out_at run.after n) (text_by x o (x.stop - first_turn x)) went) (sym s.own_is)
+    let e = got_is (client_out_at run.before n) (client_out_at run.after n) all ((went_out world in_world).client n) written front got in
+    subst (λ o. IsFrontOf (client_out_at run.before n) (client_out_at run.after n) (text_by x o (x.stop - first_turn x)) written) (sym s.own_is)
     (subst (λ l. IsFrontOf (client_out_at run.before n) (client_out_at run.after n) all l) (sym e) front)
 
 -- ---- the file of a line, by the inputs of the connections that go to it
@@ -412,7 +412,7 @@ inputs_to_may run is b inputs gave = record {
         let both = and_parts (is_from_line a y.0.from) (is_to_line b y.0.to) y.2 in
         let to = to_it b y.0.to both.1 in
         let g = gave_line run a y.0.from inputs both.0 (gave y.0 to.0 to.1 y.1 to.2) in
-        (g.given, line_had run.plan run.before run.after is.takings is.numbers a g.given is.left used g.had, g.frames)
+        (g.available, line_had run.plan run.before run.after is.takings is.numbers a g.available is.left used g.had, g.frames)
     line_at a used false e = (is.takings.line a, all_taken (is.takings.line_more a) (is.takings.line a), refl)
 
     client_at : (n : ℕ) (test : Bool) → list_any (from_client_to n b) run.plan.connections ≡ test
@@ -422,7 +422,7 @@ inputs_to_may run is b inputs gave = record {
         let both = and_parts (is_from_client n y.0.from) (is_to_line b y.0.to) y.2 in
         let to = to_it b y.0.to both.1 in
         let g = gave_client run n y.0.from inputs both.0 (gave y.0 to.0 to.1 y.1 to.2) in
-        (g.0.given, client_had run.plan run.before run.after is.takings is.numbers y.0 n g.0.given is.left y.1 g.1 g.0.had, g.0.packets)
+        (g.0.available, client_had run.plan run.before run.after is.takings is.numbers y.0 n g.0.available is.left y.1 g.1 g.0.had, g.0.packets)
     client_at n false e = (is.takings.client n, all_taken (is.takings.client_more n) (is.takings.client n), refl)
 
 same_to : (run : Run) (takings : Takings) (b : ℕ) (inputs : Inputs) → SameInputsTo run.plan (inputs_to run takings b inputs) inputs b
@@ -442,15 +442,15 @@ same_to run takings b inputs = λ x port slots has to. by_from x port slots has 
         ap (λ test. if test then inputs.client n else (taken_inputs run takings).client n) on
     by_from x number slots has to (from_end.Signal signal) e = tt
 
-file_through : (run : Run) (x : Connection) → IsRun run → Contains run.plan.connections x → (b number : ℕ) (slots : LineSlots) (inputs : Inputs) (went : List ℕ) → x.to ≡ to_end.Line b number slots
-    → GaveTo run b inputs → LineGot run b went → FileGot run inputs b went
-file_through run x is has b number slots inputs went to gave got =
+file_through : (run : Run) (x : Connection) → IsRun run → Contains run.plan.connections x → (b number : ℕ) (slots : LineSlots) (inputs : Inputs) (written : List ℕ) → x.to ≡ to_end.Line b number slots
+    → GaveTo run b inputs → LineGot run b written → FileGot run inputs b written
+file_through run x is has b number slots inputs written to gave got =
     let known = inputs_to run is.takings b inputs in
     let in_world = is_world run is known (inputs_to_may run is b inputs gave) in
     let world = world_of run is known in
     let file = (left_through world x in_world has).line b number slots to in
     let all = through_mask (form_out run.plan b).scrambled (concat file.frames) in
-    let e = got_is (line_out_at run.before b) (line_out_at run.after b) all ((went_out world in_world).line b) went file.front got in
+    let e = got_is (line_out_at run.before b) (line_out_at run.after b) all ((went_out world in_world).line b) written file.front got in
     record { frames = file.frames; file = same_file run.plan known inputs b (size_of (form_out run.plan b) * run.plan.turns) file.frames (same_to run is.takings b inputs) file.file; front = subst (λ l. IsFrontOf (line_out_at run.before b) (line_out_at run.after b) all l) (sym e) file.front }
 
 pub puts_through : (run : Run) (x : Connection) → IsRun run → Contains run.plan.connections x → PutThrough run x
@@ -458,49 +458,49 @@ puts_through run x is has = record { client = text_through run x is has; line = 
 
 -- ---- what is carried
 
-line_over : (run : Run) (x : Connection) → IsRun run → Contains run.plan.connections x → (a from b number u w : ℕ) (slots others : LineSlots) (line went bytes p : List ℕ) → x.from ≡ from_end.Line a from slots
-    → x.to ≡ to_end.Line b number others → LineGave run a line → LineGot run b went → LineLived run b → w ≤ u → w < x.stop
-    → CarriedOn x from slots line bytes p u → CarriedOn x number others (read_back run b went) bytes (0 ∷ 0 ∷ 0 ∷ p) w
-line_over run x is has a from b number u w slots others line went bytes p comes to gave got lived le less carried =
+line_over : (run : Run) (x : Connection) → IsRun run → Contains run.plan.connections x → (a from b number u w : ℕ) (slots others : LineSlots) (line written bytes p : List ℕ) → x.from ≡ from_end.Line a from slots
+    → x.to ≡ to_end.Line b number others → LineGave run a line → LineGot run b written → LineLived run b → w ≤ u → w < x.stop
+    → CarriedOn x from slots line bytes p u → CarriedOn x number others (read_back run b written) bytes (0 ∷ 0 ∷ 0 ∷ p) w
+line_over run x is has a from b number u w slots others line written bytes p comes to gave got lived le less carried =
     let inputs = own_line_inputs run is a line in
     let world = world_of run is inputs in
     let in_world = is_world run is inputs (own_line_may run is x a from slots line has comes gave) in
-    let e = line_got world x in_world has b number others went to got in
+    let e = line_got world x in_world has b number others written to got in
     subst (λ l. CarriedOn x number others (read_back run b l) bytes (0 ∷ 0 ∷ 0 ∷ p) w) (sym e)
     ((carried_in world x in_world has).line a from b number u w slots others bytes p comes to lived le less
     (subst (λ l. CarriedOn x from slots l bytes p u) (sym (line_is a line (taken_inputs run is.takings))) carried))
 
-client_over : (run : Run) (x : Connection) → IsRun run → Contains run.plan.connections x → (m b number u n : ℕ) (slots : LineSlots) (input : ClientInput) (went : List ℕ) → x.from ≡ from_end.Client m
-    → x.to ≡ to_end.Line b number slots → ClientGave run m input → LineGot run b went → LineLived run b → u < x.stop → u ≤ first_turn x + n
-    → CarriedOn x number slots (read_back run b went) (client_stream x.trace input.packets x.fcs (emitted_before x.pace n)) (numbers_got x.pace n) u
-client_over run x is has m b number u n slots input went comes to gave got lived less high =
+client_over : (run : Run) (x : Connection) → IsRun run → Contains run.plan.connections x → (m b number u n : ℕ) (slots : LineSlots) (input : ClientInput) (written : List ℕ) → x.from ≡ from_end.Client m
+    → x.to ≡ to_end.Line b number slots → ClientGave run m input → LineGot run b written → LineLived run b → u < x.stop → u ≤ first_turn x + n
+    → CarriedOn x number slots (read_back run b written) (client_stream x.trace input.packets x.fcs (emitted_before x.pace n)) (numbers_got x.pace n) u
+client_over run x is has m b number u n slots input written comes to gave got lived less high =
     let inputs = own_client_inputs run is m input in
     let world = world_of run is inputs in
     let in_world = is_world run is inputs (own_client_may run is x m input has comes gave) in
-    let e = line_got world x in_world has b number slots went to got in
+    let e = line_got world x in_world has b number slots written to got in
     subst (λ l. CarriedOn x number slots (read_back run b l) (client_stream x.trace input.packets x.fcs (emitted_before x.pace n)) (numbers_got x.pace n) u) (sym e)
     (subst (λ i. CarriedOn x number slots (read_back run b ((went_out world in_world).line b)) (client_stream x.trace (ClientInput.packets i) x.fcs (emitted_before x.pace n)) (numbers_got x.pace n) u)
     (client_is m input (taken_inputs run is.takings)) ((carried_in world x in_world has).client m b number u n slots comes to lived less high))
 
-signal_over : (run : Run) (x : Connection) → IsRun run → Contains run.plan.connections x → (signal : Signal) (b number u n : ℕ) (slots : LineSlots) (went : List ℕ) → x.from ≡ from_end.Signal signal
-    → x.to ≡ to_end.Line b number slots → LineGot run b went → LineLived run b → u < x.stop → u ≤ first_turn x + n
-    → CarriedOn x number slots (read_back run b went) (signal_bytes signal 0 (emitted_before x.pace n)) (numbers_got x.pace n) u
-signal_over run x is has signal b number u n slots went comes to got lived less high =
+signal_over : (run : Run) (x : Connection) → IsRun run → Contains run.plan.connections x → (signal : Signal) (b number u n : ℕ) (slots : LineSlots) (written : List ℕ) → x.from ≡ from_end.Signal signal
+    → x.to ≡ to_end.Line b number slots → LineGot run b written → LineLived run b → u < x.stop → u ≤ first_turn x + n
+    → CarriedOn x number slots (read_back run b written) (signal_bytes signal 0 (emitted_before x.pace n)) (numbers_got x.pace n) u
+signal_over run x is has signal b number u n slots written comes to got lived less high =
     let inputs = taken_inputs run is.takings in
     let world = world_of run is inputs in
     let in_world = is_world run is inputs (taken_may run is.takings) in
-    let e = line_got world x in_world has b number slots went to got in
+    let e = line_got world x in_world has b number slots written to got in
     subst (λ l. CarriedOn x number slots (read_back run b l) (signal_bytes signal 0 (emitted_before x.pace n)) (numbers_got x.pace n) u) (sym e)
     ((carried_in world x in_world has).signal signal b number u n slots comes to lived less high)
 
-packets_over : (run : Run) (x : Connection) → IsRun run → Contains run.plan.connections x → (a from n u k : ℕ) (slots : LineSlots) (sapi : List ℕ) (packets : List (List ℕ)) (fcs : Bool) (line went p : List ℕ)
-    → x.from ≡ from_end.Line a from slots → x.to ≡ to_end.Client n → LineGave run a line → ClientGot run n went → ClientLived run n → x.stop ≤ u + 2 → AreOffered packets
-    → CarriedOn x from slots line (client_stream sapi packets fcs k) p u → went ≡ hex_text (whole_packets packets fcs (sent p (x.stop - x.start - 2)))
-packets_over run x is has a from n u k slots sapi packets fcs line went p comes to gave got lived most offered carried =
+packets_over : (run : Run) (x : Connection) → IsRun run → Contains run.plan.connections x → (a from n u k : ℕ) (slots : LineSlots) (sapi : List ℕ) (packets : List (List ℕ)) (fcs : Bool) (line written p : List ℕ)
+    → x.from ≡ from_end.Line a from slots → x.to ≡ to_end.Client n → LineGave run a line → ClientGot run n written → ClientLived run n → x.stop ≤ u + 2 → AreOffered packets
+    → CarriedOn x from slots line (client_stream sapi packets fcs k) p u → written ≡ hex_text (whole_packets packets fcs (sent p (x.stop - x.start - 2)))
+packets_over run x is has a from n u k slots sapi packets fcs line written p comes to gave got lived most offered carried =
     let inputs = own_line_inputs run is a line in
     let world = world_of run is inputs in
     let in_world = is_world run is inputs (own_line_may run is x a from slots line has comes gave) in
-    client_got world x in_world has n went to got
+    client_got world x in_world has n written to got
     ∙ (carried_in world x in_world has).packets a from n u k slots sapi packets fcs p comes to lived most offered
     (subst (λ l. CarriedOn x from slots l (client_stream sapi packets fcs k) p u) (sym (line_is a line (taken_inputs run is.takings))) carried)
 

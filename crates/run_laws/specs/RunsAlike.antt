@@ -13,7 +13,7 @@ use Rattle.plan_file.specs.declared.connection.ToEnd.TheVariants as to_end
 use Rattle.plan_file.specs.declared.plan.Plan.{Plan}
 use Rattle.tributary_model.specs.Places.{tributary_of, IsOwn}
 use Rattle.device_model.specs.Entries.{form_out, IsActive}
-use Rattle.device_model.specs.Numbers.{Went}
+use Rattle.device_model.specs.Numbers.{OutputBytes}
 use Rattle.device_model.specs.Report.{Numbers}
 use Rattle.device_model.specs.Through.{Inputs}
 use Rattle.connection_laws.specs.TwoWorlds.{AgreeOnEnd, HaveSameByte}
@@ -38,8 +38,8 @@ pub record IsWorld (world : World) : Type 0 where
   pub may_be : MayBeInputs world.plan world.first world.last world.takings world.inputs
 
 -- what went to its outputs
-abbrev pub went_out : (world : World) → IsWorld world → Went
-went_out world is = (is.left.of_inputs world.inputs is.may_be).went
+abbrev pub went_out : (world : World) → IsWorld world → OutputBytes
+went_out world is = (is.left.of_inputs world.inputs is.may_be).written
 
 -- both plans have the connection, and their inputs agree on what it comes from
 pub record ShareOne (one other : World) (x : Connection) : Type 0 where
@@ -90,7 +90,7 @@ HasGone line f row column = LINE_FRAME_BYTES * f + place_of LINE_COLUMNS row col
 -- each own place whose byte has gone in both, and so in each of its turns where the line has lived in both, stands the
 -- same byte, where both lines are scrambled, or neither is. The numbers of a client that it comes from are the same;
 -- and so, in runs of as many turns, is its own line of the report.
-pub record LeftAlike (one other : World) (written others : Went) (x : Connection) : Type 0 where
+pub record LeftAlike (one other : World) (written others : OutputBytes) (x : Connection) : Type 0 where
   pub text : (n : ℕ) → x.to ≡ to_end.Client n → IsFrontOfOther (written.client n) (others.client n)
   pub whole_text : (n : ℕ) → x.to ≡ to_end.Client n → BothLived one other (state_of_client n)
       → written.client n ≡ others.client n

@@ -13,7 +13,7 @@ use Rattle.device_model.specs.Entries.{first_turn}
 use Rattle.connection_laws.specs.Healing.{IsCarriedAgain}
 use Rattle.connection_laws.specs.HeldBack.{emitted_after}
 use Rattle.device_model.specs.LineViews.{view_at}
-use Rattle.device_model.specs.Numbers.{Went}
+use Rattle.device_model.specs.Numbers.{OutputBytes}
 use Rattle.connection_laws.specs.OneDamaged.{AgreeButForOne}
 use Rattle.device_model.specs.Through.{own_input, got_in, got_by, arrived_by}
 use Rattle.run_laws.specs.RunsAlike.{World, IsWorld, LeftAlike, went_out, state_of_line, state_of_client}
@@ -23,7 +23,7 @@ use Rattle.run_laws.specs.RunsThrough.{LivedIn, read_of}
 
 -- The output line of a connection carries all that the connection got up to turn u + 1, in as many bytes a turn as it
 -- got.
-abbrev pub CarriesAllGot : World → Went → Connection → (b port : ℕ) → LineSlots → (u : ℕ) → Type 0
+abbrev pub CarriesAllGot : World → OutputBytes → Connection → (b port : ℕ) → LineSlots → (u : ℕ) → Type 0
 CarriesAllGot world written x b port slots u =
     let input = own_input world.inputs x in
     let n = u + 1 - first_turn x in
@@ -36,7 +36,8 @@ CarriesAllGot world written x b port slots u =
 -- in turn t - 1. Where its output lived, a line to which it goes carries what it got in all its turns, these bytes
 -- among it, and a client gets what the bytes that had arrived by turn h + 4 and then these, up to those that the sender
 -- took three turns before the connection's last turn, deliver.
-pub record HealsIn (world : World) (written : Went) (x : Connection) (bytes p : List ℕ) (s u h : ℕ) : Type 0 where
+pub record HealsIn (world : World) (written : OutputBytes) (x : Connection) (bytes p : List ℕ) (s u h : ℕ)
+    : Type 0 where
   pub turn : (t : ℕ) → h + 3 ≤ t → t ≤ u
       → got_in x (own_input world.inputs x) (t + 1 - first_turn x)
       ≡ slice_range bytes (sent p (t - s - 2)) (sent p (t - s - 1))
@@ -59,7 +60,7 @@ RunsHeal = (world : World) (x : Connection) (a from s b u h : ℕ) (slots : Line
 -- A run reads as its line c the file that another wrote to line b, with the mask that it was written with. A connection
 -- of it comes from the slots, and by the port, to which one of the other goes, from the same turn on and to a stop that
 -- is no later. How the line is damaged from which that comes is free.
-pub record Follows (one other : World) (written : Went) (x y : Connection) (b c : ℕ)
+pub record Follows (one other : World) (written : OutputBytes) (x y : Connection) (b c : ℕ)
     (slots next : LineSlots) : Type 0 where
   pub first : Contains one.plan.connections x
   pub second : Contains other.plan.connections y
@@ -84,7 +85,7 @@ front_got one x y m n =
 
 -- What the second connection has then is a front of what the first got: none of it is lost, doubled or out of order. A
 -- client of the second gets what this delivers.
-pub record HandsOnAFront (one other : World) (written : Went) (x y : Connection) (m : ℕ) : Type 0 where
+pub record HandsOnAFront (one other : World) (written : OutputBytes) (x y : Connection) (m : ℕ) : Type 0 where
   pub arrived : (n : ℕ) → first_turn x + n ≤ y.stop → arrived_by y (own_input other.inputs y) (n + 1)
       ≡ front_got one x y m n
   pub client : (k : ℕ) → y.to ≡ to_end.Client k → LivedIn other (state_of_client k)

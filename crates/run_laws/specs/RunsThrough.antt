@@ -22,7 +22,7 @@ use Rattle.connection_laws.specs.Delivery.{AreOffered, whole_packets}
 use Rattle.device_model.specs.Entries.{first_turn, form_out}
 use Rattle.device_model.specs.LineFiles.{IsLineFile}
 use Rattle.device_model.specs.LineViews.{view_at}
-use Rattle.device_model.specs.Numbers.{Went}
+use Rattle.device_model.specs.Numbers.{OutputBytes}
 use Rattle.device_model.specs.Through.{own_input, text_by}
 use Rattle.run_laws.specs.RunsAlike.{World, IsWorld, HasLived, went_out, state_of_line, state_of_client}
 
@@ -49,7 +49,7 @@ pub record FileWent (world : World) (b : ℕ) (written : List ℕ) : Type 0 wher
       (through_mask (form_out world.plan b).scrambled (concat frames)) written
 
 -- To a client of the connection its text, of all that it gets in its own turns; to a line of it the line's file.
-pub record LeftThrough (world : World) (written : Went) (x : Connection) : Type 0 where
+pub record LeftThrough (world : World) (written : OutputBytes) (x : Connection) : Type 0 where
   pub client : (n : ℕ) → x.to ≡ to_end.Client n
       → IsFrontOf (client_out_at world.first n) (client_out_at world.last n)
       (text_by x (own_input world.inputs x) (x.stop - first_turn x)) (written.client n)
@@ -63,7 +63,7 @@ OutputsAreThrough = (world : World) (x : Connection) (is : IsWorld world) → Co
 -- ---- what is carried
 
 -- what a reader sees of the output line, through its mask
-abbrev pub read_of : World → Went → (b : ℕ) → List ℕ
+abbrev pub read_of : World → OutputBytes → (b : ℕ) → List ℕ
 read_of world written b = through_mask (form_out world.plan b).scrambled (written.line b)
 
 -- These bytes are what the views of its tributary on this line carry, from the first turn of a connection up to turn u
@@ -76,7 +76,7 @@ CarriedOn x port slots line bytes p u = Arrives (tributary_of slots port) bytes 
 -- output line carries them too, by the same numbers three turns later. From a client or a signal: the front of its
 -- stream, by the paces, a turn later. To a client, of packets that such a line carries: the text of exactly those whose
 -- GFP frames lie whole in the frames that came whole, of what the sender took up to three turns before the stop.
-pub record CarriedIn (world : World) (written : Went) (x : Connection) : Type 0 where
+pub record CarriedIn (world : World) (written : OutputBytes) (x : Connection) : Type 0 where
   pub line : (a from b port u w : ℕ) (slots others : LineSlots) (bytes p : List ℕ) → x.from ≡ from_end.Line a from slots
       → x.to ≡ to_end.Line b port others
       → LivedIn world (state_of_line b) → w ≤ u → w < x.stop

@@ -56,16 +56,17 @@ pub record IsRun (run : Run) : Type 0 where
 
 -- the bytes of line a: those that its place had to give, through the line's mask
 pub record LineGave (run : Run) (a : ℕ) (line : List ℕ) : Type 0 where
-  pub given : List ℕ
-  pub had : HadToGive (line_in_at run.before a) (line_in_at run.after a) given
-  pub frames : line ≡ through_mask (form_in run.plan a).scrambled given
+  pub available : List ℕ
+  pub had : HadToGive (line_in_at run.before a) (line_in_at run.after a) available
+  pub frames : line ≡ through_mask (form_in run.plan a).scrambled available
 
 -- the packets of client n and how they end: those of the text that its place had to give, or of what is left of that
 -- where the place died
 pub record ClientGave (run : Run) (n : ℕ) (input : ClientInput) : Type 0 where
-  pub given : List ℕ
-  pub had : HadToGive (client_in_at run.before n) (client_in_at run.after n) given
-  pub packets : input ≡ input_given (has_died (client_in_at run.before n).state (client_in_at run.after n).state) given
+  pub available : List ℕ
+  pub had : HadToGive (client_in_at run.before n) (client_in_at run.after n) available
+  pub packets : input
+      ≡ input_given (has_died (client_in_at run.before n).state (client_in_at run.after n).state) available
 
 -- Two runs agree on what an end comes from: its line, each read through its own plan's mask, has as many whole frames
 -- in both, with the same MFAS bytes, and the same bytes at the own places of its tributary; its client has the same

@@ -65,21 +65,21 @@ known_client run c h =
 
 -- ---- an input in memory
 
-told_all : (given taken : List ℕ) (more : Bool) (l : Option (List ℕ)) (ended : Bool) → Some given ≡ before taken l → (more ≡ false → HasEnded l ended) → MayHave more taken given
-told_all given taken more None ended e over = absurd (cc)
-told_all given taken more (Some rest) ended e over = record { rest = rest; over = λ m. (over m).nothing; parts = (let same : given ≡ taken ++ rest = cc in same) }
+told_all : (available read : List ℕ) (more : Bool) (l : Option (List ℕ)) (ended : Bool) → Some available ≡ before read l → (more ≡ false → HasEnded l ended) → MayHave more read available
+told_all available read more None ended e over = absurd (cc)
+told_all available read more (Some rest) ended e over = record { rest = rest; over = λ m. (over m).nothing; parts = (let same : available ≡ read ++ rest = cc in same) }
 
 lives_on : (first now : State) (a b : ℕ) → first ≡ Live → a ≡ 0 → b ≡ 0 → Lives first now a b → now ≡ Live
 lives_on first now a b live none well (inl same) = same.0 ∙ live
 lives_on first now a b live none well (inr (was, dead, inl more)) = absurd (omega arith)
 lives_on first now a b live none well (inr (was, dead, inr full)) = absurd (let some : 0 < b = omega arith in omega arith)
 
-pub record Kept (given taken : List ℕ) (more : Bool) (last : InView) : Type 0 where
+pub record Kept (available read : List ℕ) (more : Bool) (last : InView) : Type 0 where
   pub lives : last.state ≡ Live
-  pub follow : MayHave more taken given
+  pub follow : MayHave more read available
 
-kept : (given taken : List ℕ) (more : Bool) (first last : InView) → first ≡ holding given → last.faults ≡ 0 → InputLeft first last taken more → Kept given taken more last
-kept given taken more first last is well left =
+kept : (available read : List ℕ) (more : Bool) (first last : InView) → first ≡ holding available → last.faults ≡ 0 → InputLeft first last read more → Kept available read more last
+kept available read more first last is well left =
     let gave = left.gave in
     let state = gave.state in
     let takes = gave.takes in
@@ -87,7 +87,7 @@ kept given taken more first last is well left =
     let lives = lives_on first.state last.state first.faults last.faults (ap (λ (v : InView). v.state) is) (ap (λ (v : InView). v.faults) is) well state in
     record {
       lives = lives;
-      follow = told_all given taken more last.left last.ended (sym (ap (λ (v : InView). v.left) is) ∙ told) (λ no. left.over no lives);
+      follow = told_all available read more last.left last.ended (sym (ap (λ (v : InView). v.left) is) ∙ told) (λ no. left.over no lives);
     }
 
 -- ---- an output in memory

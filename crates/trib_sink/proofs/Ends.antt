@@ -11,7 +11,7 @@ use Rattle.tributary_model.specs.declared.turns.Standing.{Standing}
 use Rattle.tributary_model.specs.declared.turns.Standing.TheVariants.{Waiting, Down, Up}
 use Rattle.tributary_model.specs.Places.{Tributary, tributary_of, Taken, View, greatest, frame_groups, message_in, msi_in, view_of, IsWholeTurn, AreWholeTurns}
 use Rattle.tributary_model.specs.Messages.{hears_message}
-use Rattle.tributary_model.specs.Stretches.{groups_of, bytes_of, came, any_marked}
+use Rattle.tributary_model.specs.Stretches.{groups_of, bytes_of, msi_read, any_marked}
 use Rattle.tributary_model.specs.Emission.{data_bytes, emission}
 use Rattle.tributary_model.specs.Machine.{Machine, former_of, cm_of, heard_in, after_standing, after_heard, gives_standing, gives_heard, machine_after}
 use Rattle.tributary_model.specs.Laws.{IsTributary}
@@ -102,7 +102,7 @@ pub stands_turned : (own : Tributary) (past : List (Option View)) (frames : List
     → IsSink s → StandsAfter own past frames s → g ≡ record s.following { listener = listener_after s.following heard }
     → IsTurnOf own past view s.following.standing heard s.following.extraction.fresh
     → ((x : Machine) → IsAt x g → IsAt (after_heard g.extraction.slots heard g.extraction.fresh x) f) → IsBetween g f
-    → Watched own.port (λ k. came k (view ∷ past)) watches → StandsAfter own (view ∷ past) [] (turned s f watches)
+    → Watched own.port (λ k. msi_read k (view ∷ past)) watches → StandsAfter own (view ∷ past) [] (turned s f watches)
 stands_turned own past frames s view f g watches heard i h is turn at between watched =
     let m = machine_after own past in
     let slots = count_of own past frames s g heard i h is in
@@ -144,12 +144,12 @@ none_heard former m false = refl
 missed_turn : (own : Tributary) (past : List (Option View)) (st : Standing) (fresh : List ℕ) → IsTurnOf own past None st None fresh
 missed_turn own past st fresh = record { whole = tt; heard_is = none_heard (former_of st) (length own.slots) (any_marked own (None ∷ past)); fresh_is = inr refl }
 
-came_missed : (k : ℕ) (past : List (Option View)) → came k past ≡ came k (None ∷ past)
-unfolding came
-came_missed k past = sym (append-nil (came k past))
+came_missed : (k : ℕ) (past : List (Option View)) → msi_read k past ≡ msi_read k (None ∷ past)
+unfolding msi_read
+came_missed k past = sym (append-nil (msi_read k past))
 
-watched_missed : (port : ℕ) (past : List (Option View)) (watches : List Watch) → Watched port (λ k. came k past) watches → Watched port (λ k. came k (None ∷ past)) watches
-watched_missed port past watches h = same_taken port (λ k. came k past) (λ k. came k (None ∷ past)) watches (λ k. came_missed k past) h
+watched_missed : (port : ℕ) (past : List (Option View)) (watches : List Watch) → Watched port (λ k. msi_read k past) watches → Watched port (λ k. msi_read k (None ∷ past)) watches
+watched_missed port past watches h = same_taken port (λ k. msi_read k past) (λ k. msi_read k (None ∷ past)) watches (λ k. came_missed k past) h
 
 -- ---- a turn with a multiframe
 
@@ -165,17 +165,17 @@ view_groups : (own : Tributary) (frames : List Taken) → (view_of own frames).g
 unfolding view_of
 view_groups own frames = refl
 
-came_with : (k : ℕ) (v : View) (past : List (Option View)) → came k past ++ bytes_of k v.msi ≡ came k (Some v ∷ past)
-unfolding came
+came_with : (k : ℕ) (v : View) (past : List (Option View)) → msi_read k past ++ bytes_of k v.msi ≡ msi_read k (Some v ∷ past)
+unfolding msi_read
 came_with k v past = refl
 
 came_whole : (own : Tributary) (frames : List Taken) (past : List (Option View)) (msi : List (ℕ × ℕ)) → msi ≡ flat_map (msi_in own) frames
-    → (k : ℕ) → came k past ++ bytes_of k msi ≡ came k (Some (view_of own frames) ∷ past)
-came_whole own frames past msi e k = ap (λ xs. came k past ++ bytes_of k xs) (e ∙ sym (view_msi own frames)) ∙ came_with k (view_of own frames) past
+    → (k : ℕ) → msi_read k past ++ bytes_of k msi ≡ msi_read k (Some (view_of own frames) ∷ past)
+came_whole own frames past msi e k = ap (λ xs. msi_read k past ++ bytes_of k xs) (e ∙ sym (view_msi own frames)) ∙ came_with k (view_of own frames) past
 
 watched_whole : (own : Tributary) (past : List (Option View)) (frames : List Taken) (s : Sink) (watches : List Watch) → StandsAfter own past frames s
-    → Watched own.port (λ k. came k past ++ bytes_of k s.msi) watches → Watched own.port (λ k. came k (Some (view_of own frames) ∷ past)) watches
-watched_whole own past frames s watches h w = same_taken own.port (λ k. came k past ++ bytes_of k s.msi) (λ k. came k (Some (view_of own frames) ∷ past)) watches (came_whole own frames past s.msi h.msi) w
+    → Watched own.port (λ k. msi_read k past ++ bytes_of k s.msi) watches → Watched own.port (λ k. msi_read k (Some (view_of own frames) ∷ past)) watches
+watched_whole own past frames s watches h w = same_taken own.port (λ k. msi_read k past ++ bytes_of k s.msi) (λ k. msi_read k (Some (view_of own frames) ∷ past)) watches (came_whole own frames past s.msi h.msi) w
 
 any_alike : (p q : ℕ → Bool) (xs : List ℕ) → ((k : ℕ) → p k ≡ q k) → list_any p xs ≡ list_any q xs
 any_alike p q [] h = refl
@@ -183,9 +183,9 @@ any_alike p q (x ∷ xs) h = let a = h x in let b = any_alike p q xs h in cc
 
 -- the watches mark what the definition marks
 marked_whole : (own : Tributary) (past : List (Option View)) (frames : List Taken) (msi : List (ℕ × ℕ)) → msi ≡ flat_map (msi_in own) frames
-    → list_any (λ k. is_marked own.port (came k past ++ bytes_of k msi)) own.slots ≡ any_marked own (Some (view_of own frames) ∷ past)
+    → list_any (λ k. is_marked own.port (msi_read k past ++ bytes_of k msi)) own.slots ≡ any_marked own (Some (view_of own frames) ∷ past)
 marked_whole own past frames msi e =
-    any_alike (λ k. is_marked own.port (came k past ++ bytes_of k msi)) (λ k. is_marked own.port (came k (Some (view_of own frames) ∷ past))) own.slots
+    any_alike (λ k. is_marked own.port (msi_read k past ++ bytes_of k msi)) (λ k. is_marked own.port (msi_read k (Some (view_of own frames) ∷ past))) own.slots
     (λ k. ap (is_marked own.port) (came_whole own frames past msi e k))
 
 heard_by : (former : Option ℕ) (m : ℕ) (marked : Bool) (v : View) → cond {A = Option Hearing} marked None (Some (hears_message former m v.message)) ≡ heard_in former m marked (Some v)
@@ -198,7 +198,7 @@ is_of_line own s e list =
     record { slots = list; even = subst (λ n. n * (3808 / n) ≡ 3808) (sym lines) (evenly s.slots.kind) }
 
 whole_turn : (own : Tributary) (past : List (Option View)) (frames : List Taken) (s : Sink) (heard : Option Hearing) → IsSink s → StandsAfter own past frames s → s.taken ≡ slots_of s.slots.kind
-    → heard ≡ cond (list_any (λ k. is_marked own.port (came k past ++ bytes_of k s.msi)) s.slots.list) None (Some (hears_message (former_of s.following.standing) s.following.extraction.slots s.message))
+    → heard ≡ cond (list_any (λ k. is_marked own.port (msi_read k past ++ bytes_of k s.msi)) s.slots.list) None (Some (hears_message (former_of s.following.standing) s.following.extraction.slots s.message))
     → IsTurnOf own past (Some (view_of own frames)) s.following.standing heard s.following.extraction.fresh
 whole_turn own past frames s heard i h all is =
     let v = view_of own frames in
@@ -213,7 +213,7 @@ whole_turn own past frames s heard i h all is =
       whole = whole_view own frames (is_of_line own s h.own_is h.slots) many;
       heard_is =
           is
-          ∙ ap (λ xs. cond {A = Option Hearing} (list_any (λ k. is_marked own.port (came k past ++ bytes_of k s.msi)) xs) None (Some (hears_message (former_of st) s.following.extraction.slots s.message))) slots
+          ∙ ap (λ xs. cond {A = Option Hearing} (list_any (λ k. is_marked own.port (msi_read k past ++ bytes_of k s.msi)) xs) None (Some (hears_message (former_of st) s.following.extraction.slots s.message))) slots
           ∙ ap (λ b. cond {A = Option Hearing} b None (Some (hears_message (former_of st) s.following.extraction.slots s.message))) (marked_whole own past frames s.msi h.msi)
           ∙ ap (λ n. cond {A = Option Hearing} (any_marked own (Some v ∷ past)) None (Some (hears_message (former_of st) n s.message))) count
           ∙ ap (λ xs. cond {A = Option Hearing} (any_marked own (Some v ∷ past)) None (Some (hears_message (former_of st) (length own.slots) xs))) message
@@ -230,29 +230,29 @@ whole_turn own past frames s heard i h all is =
 
 -- the same where the MSI bytes were handed on as another list that is equal
 whole_turn_of : (own : Tributary) (past : List (Option View)) (frames : List Taken) (s : Sink) (heard : Option Hearing) (msi : List (ℕ × ℕ)) → msi ≡ s.msi → IsSink s → StandsAfter own past frames s → s.taken ≡ slots_of s.slots.kind
-    → heard ≡ cond (list_any (λ k. is_marked own.port (came k past ++ bytes_of k msi)) s.slots.list) None (Some (hears_message (former_of s.following.standing) s.following.extraction.slots s.message))
+    → heard ≡ cond (list_any (λ k. is_marked own.port (msi_read k past ++ bytes_of k msi)) s.slots.list) None (Some (hears_message (former_of s.following.standing) s.following.extraction.slots s.message))
     → IsTurnOf own past (Some (view_of own frames)) s.following.standing heard s.following.extraction.fresh
 whole_turn_of own past frames s heard msi e i h all is =
     whole_turn own past frames s heard i h all
-    (is ∙ ap (λ xs. cond {A = Option Hearing} (list_any (λ k. is_marked own.port (came k past ++ bytes_of k xs)) s.slots.list) None (Some (hears_message (former_of s.following.standing) s.following.extraction.slots s.message))) e)
+    (is ∙ ap (λ xs. cond {A = Option Hearing} (list_any (λ k. is_marked own.port (msi_read k past ++ bytes_of k xs)) s.slots.list) None (Some (hears_message (former_of s.following.standing) s.following.extraction.slots s.message))) e)
 
 watched_whole_of : (own : Tributary) (past : List (Option View)) (frames : List Taken) (s : Sink) (watches : List Watch) (msi : List (ℕ × ℕ)) → msi ≡ s.msi → StandsAfter own past frames s
-    → Watched own.port (λ k. came k past ++ bytes_of k msi) watches → Watched own.port (λ k. came k (Some (view_of own frames) ∷ past)) watches
+    → Watched own.port (λ k. msi_read k past ++ bytes_of k msi) watches → Watched own.port (λ k. msi_read k (Some (view_of own frames) ∷ past)) watches
 watched_whole_of own past frames s watches msi e h w =
-    watched_whole own past frames s watches h (same_taken own.port (λ k. came k past ++ bytes_of k msi) (λ k. came k past ++ bytes_of k s.msi) watches (λ k. ap (λ xs. came k past ++ bytes_of k xs) e) w)
+    watched_whole own past frames s watches h (same_taken own.port (λ k. msi_read k past ++ bytes_of k msi) (λ k. msi_read k past ++ bytes_of k s.msi) watches (λ k. ap (λ xs. msi_read k past ++ bytes_of k xs) e) w)
 
 -- ---- a turn with a multiframe or without one
 
 pub ended_turn : (own : Tributary) (past : List (Option View)) (frames : List Taken) (s : Sink) (whole : Bool) (heard : Option Hearing) (msi : List (ℕ × ℕ)) → msi ≡ s.msi → IsSink s → StandsAfter own past frames s
     → (IsTrue whole → s.taken ≡ slots_of s.slots.kind) → (whole ≡ false → heard ≡ None)
-    → (whole ≡ true → heard ≡ cond (list_any (λ k. is_marked own.port (came k past ++ bytes_of k msi)) s.slots.list) None (Some (hears_message (former_of s.following.standing) s.following.extraction.slots s.message)))
+    → (whole ≡ true → heard ≡ cond (list_any (λ k. is_marked own.port (msi_read k past ++ bytes_of k msi)) s.slots.list) None (Some (hears_message (former_of s.following.standing) s.following.extraction.slots s.message)))
     → IsTurnOf own past (ended_view own whole frames) s.following.standing heard s.following.extraction.fresh
 ended_turn own past frames s true heard msi e i h all none some = whole_turn_of own past frames s heard msi e i h (all refl) (some refl)
 ended_turn own past frames s false heard msi e i h all none some =
     subst (λ o. IsTurnOf own past None s.following.standing o s.following.extraction.fresh) (sym (none refl)) (missed_turn own past s.following.standing s.following.extraction.fresh)
 
 pub ended_watched : (own : Tributary) (past : List (Option View)) (frames : List Taken) (s : Sink) (whole : Bool) (watches : List Watch) (msi : List (ℕ × ℕ)) → msi ≡ s.msi → StandsAfter own past frames s
-    → (whole ≡ false → watches ≡ s.watches) → (whole ≡ true → Watched own.port (λ k. came k past ++ bytes_of k msi) watches)
-    → Watched own.port (λ k. came k (ended_view own whole frames ∷ past)) watches
+    → (whole ≡ false → watches ≡ s.watches) → (whole ≡ true → Watched own.port (λ k. msi_read k past ++ bytes_of k msi) watches)
+    → Watched own.port (λ k. msi_read k (ended_view own whole frames ∷ past)) watches
 ended_watched own past frames s true watches msi e h none some = watched_whole_of own past frames s watches msi e h (some refl)
-ended_watched own past frames s false watches msi e h none some = subst (Watched own.port (λ k. came k (None ∷ past))) (sym (none refl)) (watched_missed own.port past s.watches h.watched)
+ended_watched own past frames s false watches msi e h none some = subst (Watched own.port (λ k. msi_read k (None ∷ past))) (sym (none refl)) (watched_missed own.port past s.watches h.watched)

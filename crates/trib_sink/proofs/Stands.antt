@@ -11,7 +11,7 @@ use Rattle.otn_base.specs.SlotList.{IsSlotList}
 use Rattle.msi_table.specs.Marks.{Watch, HasTaken}
 use Rattle.odtu_columns.specs.Message.{message_of}
 use Rattle.tributary_model.specs.Places.{Tributary, tributary_of, Taken, View, greatest, message_in, msi_at, msi_in}
-use Rattle.tributary_model.specs.Stretches.{came, state_after}
+use Rattle.tributary_model.specs.Stretches.{msi_read, state_after}
 use Rattle.tributary_model.specs.Emission.{data_bytes}
 use Rattle.tributary_model.specs.Machine.{start, cm_of, machine_after, state_of_standing}
 use Rattle.tributary_model.proofs.Law.{state_is}
@@ -35,15 +35,15 @@ machine_start : (own : Tributary) → machine_after own [] ≡ start
 unfolding machine_after
 machine_start own = refl
 
-came_start : (k : ℕ) → [] ≡ came k []
-unfolding came
+came_start : (k : ℕ) → [] ≡ msi_read k []
+unfolding msi_read
 came_start k = refl
 
 pub bytes_start : (c : ℕ) → data_bytes c [] ≡ []
 unfolding data_bytes
 bytes_start c = refl
 
-pub watched_start : (port : ℕ) (watches : List Watch) → Watched port (λ k. []) watches → Watched port (λ k. came k []) watches
+pub watched_start : (port : ℕ) (watches : List Watch) → Watched port (λ k. []) watches → Watched port (λ k. msi_read k []) watches
 watched_start port watches h = record { each = λ k d low high. subst (λ xs. HasTaken port xs (get_or watches (k - 1) d)) (came_start k) (h.each k d low high) }
 
 -- a sink before its first turn

@@ -2,7 +2,7 @@
 use Rattle.std.specs.Prelude.{◌≡◌, ℕ, ◌+◌, ◌*◌, ◌-◌, ◌<◌, ◌≤◌, List, [], Option, Some, None}
 use Rattle.otn_base.specs.declared.limits.TheConstants.{GROUPS}
 use Rattle.maintenance_signals.specs.declared.signal.Signal.TheVariants.{Ais}
-use Rattle.maintenance_signals.specs.Given.{StreamPlace, HasGiven}
+use Rattle.maintenance_signals.specs.Given.{StreamPlace, HasEmitted}
 use Rattle.tributary_model.specs.declared.turns.Said.{Said}
 use Rattle.tributary_model.specs.declared.turns.Standing.{Standing}
 use Rattle.tributary_model.specs.declared.turns.Standing.TheVariants.{Waiting, Down, Up}
@@ -43,7 +43,7 @@ FitsStanding slots pending (Up said) = IsSmallSaid slots said × FitsDue slots p
 pub record IsAt (machine : Machine) (f : Following) : Type 0 where
   pub standing : f.standing ≡ machine.standing
   pub pending : f.extraction.pending ≡ machine.pending
-  pub stream : HasGiven Ais machine.place f.stream
+  pub stream : HasEmitted Ais machine.place f.stream
 
 -- the most bytes that a turn emits: all groups of a multiframe, and a part of one
 abbrev pub most_of : (slots : ℕ) → ℕ

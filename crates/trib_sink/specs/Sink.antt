@@ -5,7 +5,7 @@ use Rattle.otn_base.specs.LineSlots.{LineSlots, slots_of}
 use Rattle.otn_base.specs.SlotList.{IsSlotList}
 use Rattle.msi_table.specs.Marks.{Watch}
 use Rattle.tributary_model.specs.Places.{Tributary, tributary_of, Taken, View, greatest, frame_groups, message_in, msi_in, turn_view, AreWholeTurns}
-use Rattle.tributary_model.specs.Stretches.{came}
+use Rattle.tributary_model.specs.Stretches.{msi_read}
 use Rattle.tributary_model.specs.Emission.{data_bytes}
 use Rattle.tributary_model.specs.Machine.{cm_of, machine_after}
 use Rattle.trib_sink.specs.Following.{Following, Keeps, IsAt}
@@ -43,7 +43,7 @@ pub record StandsAfter (own : Tributary) (past : List (Option View)) (frames : L
   pub slots : IsSlotList own.line_slots own.slots
   pub whole : AreWholeTurns (length own.slots) past
   pub at : IsAt (machine_after own past) s.following
-  pub watched : Watched own.port (λ k. came k past) s.watches
+  pub watched : Watched own.port (λ k. msi_read k past) s.watches
   pub taken : s.taken ≡ length frames
   pub fresh : s.following.extraction.fresh
       ≡ data_bytes (cm_of s.following.standing) (flat_map (λ t. frame_groups own t.frame) frames)

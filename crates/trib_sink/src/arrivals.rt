@@ -39,17 +39,17 @@ pub(crate) fn note_msi<F: TakeFrame>(
     slots: &Slots,
     frame: &F,
     expected: u8,
-    came: &mut ArrayVec<(u8, u8), MOST_SLOTS>,
+    arrived: &mut ArrayVec<(u8, u8), MOST_SLOTS>,
 )
-    requires room { length came.old.items < MOST_SLOTS }
-    ensures bytes { came.new.items ≡ came.old.items ++ msi_at slots.now.list expected (F.bytes frame.now) }
-    ensures few { length came.new.items ≤ length came.old.items + 1 }
-    ensures slots { AreOfSlots came.old.items → AreOfSlots came.new.items }
+    requires room { length arrived.old.items < MOST_SLOTS }
+    ensures bytes { arrived.new.items ≡ arrived.old.items ++ msi_at slots.now.list expected (F.bytes frame.now) }
+    ensures few { length arrived.new.items ≤ length arrived.old.items + 1 }
+    ensures slots { AreOfSlots arrived.old.items → AreOfSlots arrived.new.items }
 {
     if expected == 0 {
         return;
     }
     if slots.has(expected - 1) {
-        came.push((expected - 1, frame.psi()));
+        arrived.push((expected - 1, frame.psi()));
     }
 }

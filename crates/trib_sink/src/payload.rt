@@ -2,7 +2,7 @@
 ghost use Rattle.std.specs.Prelude.{◌≡◌, ◌+◌, ◌*◌, ◌≤◌, ℕ, [], ◌++◌, IfOk, length, take, drop, slice_range, vec_len};
 ghost use Rattle.frame_geometry.specs.Places.{payload_row_of};
 ghost use Rattle.maintenance_signals.specs.declared.signal.Signal.{Signal};
-ghost use Rattle.maintenance_signals.specs.Given.{HasGiven};
+ghost use Rattle.maintenance_signals.specs.Given.{HasEmitted};
 ghost use Rattle.maintenance_signals.specs.Stream.{signal_bytes};
 ghost use Rattle.otn_base.specs.LineSlots.{slots_of};
 ghost use Rattle.otn_base.specs.declared.limits.TheConstants.{GROUPS, LINE_COLUMNS, MOST_SLOTS, NOMINAL};
@@ -225,10 +225,10 @@ impl Payload {
           fresh = [];
           emitted = self.new.emitted;
         } }
-        ensures bytes { (signal : Signal) (emitted : ℕ) → HasGiven signal emitted stream.old
+        ensures bytes { (signal : Signal) (emitted : ℕ) → HasEmitted signal emitted stream.old
             → self.new.emitted ≡ signal_bytes signal emitted (self.old.slots * NOMINAL) }
-        ensures given { (signal : Signal) (emitted : ℕ) → HasGiven signal emitted stream.old
-            → HasGiven signal (emitted + self.old.slots * NOMINAL) stream.new }
+        ensures given { (signal : Signal) (emitted : ℕ) → HasEmitted signal emitted stream.old
+            → HasEmitted signal (emitted + self.old.slots * NOMINAL) stream.new }
         ensures most { length self.new.emitted ≤ self.old.slots * NOMINAL }
     {
         let count = self.slots * NOMINAL;
@@ -289,10 +289,10 @@ fn copy_to(bytes: &[u8], into: &mut [u8], at: usize) -> usize
 // The next bytes of a signal's stream, so many, to the front of a slice.
 fn next_front(stream: &mut SignalBytes, into: &mut [u8], count: usize)
     requires { count ≤ length into.old }
-    ensures bytes { (signal : Signal) (emitted : ℕ) → HasGiven signal emitted stream.old
+    ensures bytes { (signal : Signal) (emitted : ℕ) → HasEmitted signal emitted stream.old
         → take count into.new ≡ signal_bytes signal emitted count }
-    ensures given { (signal : Signal) (emitted : ℕ) → HasGiven signal emitted stream.old
-        → HasGiven signal (emitted + count) stream.new }
+    ensures given { (signal : Signal) (emitted : ℕ) → HasEmitted signal emitted stream.old
+        → HasEmitted signal (emitted + count) stream.new }
     ensures size { length into.new ≡ length into.old }
 {
     stream.next(&mut into[..count]);

@@ -9,13 +9,13 @@ ghost use Rattle.trib_sink.specs.Watching.{Watched, AreOfSlots};
 use msi_table::MsiWatch;
 
 /// Takes the MSI bytes that came in a turn, each with its slot.
-pub(crate) fn take_all(watches: &mut [MsiWatch], came: &[(u8, u8)])
+pub(crate) fn take_all(watches: &mut [MsiWatch], arrived: &[(u8, u8)])
     requires watches { length watches.old ≡ MOST_SLOTS }
-    requires slots { AreOfSlots came.now }
+    requires slots { AreOfSlots arrived.now }
     ensures { (port : ℕ) (read : ℕ → List ℕ) → Watched port read watches.old
-        → Watched port (λ k. read k ++ bytes_of k came.now) watches.new }
+        → Watched port (λ k. read k ++ bytes_of k arrived.now) watches.new }
 {
-    for pair in came {
+    for pair in arrived {
         take_one(watches, pair.0, pair.1);
     }
 }

@@ -156,22 +156,22 @@ file_shows : (b : ℕ) (own : Tributary) (turns : List (List ℕ)) (count t : �
     → ShowsTurn own (take (t + 1) turns) t (frames_of own.line_slots (concat frames) (lock_at own.line_slots t))
 file_shows b own turns count t frames trib some file few =
     let size = own.line_slots in
-    let given = concat frames in
+    let available = concat frames in
     let next = next_turn size t in
-    let made : (n : ℕ) → n < size → PutIn b own turns t n (frame_at given (size * t + n))
+    let made : (n : ℕ) → n < size → PutIn b own turns t n (frame_at available (size * t + n))
     = λ n l. put_in_turn b own turns count frames t n file l (omega arith) in
     record {
-      many = frames_many size given (lock_at size t);
+      many = frames_many size available (lock_at size t);
       put = λ n f e.
-          let is = member_is size given (lock_at size t) n f e in
+          let is = member_is size available (lock_at size t) n f e in
           let m = made n is.0 in
           subst (λ (g : Taken). IsPut own (take (t + 1) turns) t n g.frame) (sym is.1)
-          (stays_where_kept own (take (t + 1) turns) t n m.put.bytes (frame_at given (size * t + n)) m.is.own_bytes
-          (λ row column o. kept_place own n b m.bip m.put (frame_at given (size * t + n)) row column m.frame o));
+          (stays_where_kept own (take (t + 1) turns) t n m.put.bytes (frame_at available (size * t + n)) m.is.own_bytes
+          (λ row column o. kept_place own n b m.bip m.put (frame_at available (size * t + n)) row column m.frame o));
       msi = λ n f e.
-          let is = member_is size given (lock_at size t) n f e in
+          let is = member_is size available (lock_at size t) n f e in
           subst (λ (g : Taken). (row column : ℕ) → IsOwnMsi own g.expected row column → byte_at g.frame row column ≡ msi_byte own.port) (sym is.1)
-          (λ row column o. msi_of_file b own turns t n (frame_at given (size * t + n)) ((size * t % 256 + n) % 256) row column trib some (made n is.0) (omega arith) o);
+          (λ row column o. msi_of_file b own turns t n (frame_at available (size * t + n)) ((size * t % 256 + n) % 256) row column trib some (made n is.0) (omega arith) o);
     }
 
 -- ---- all turns

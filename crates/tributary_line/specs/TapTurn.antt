@@ -49,11 +49,11 @@ pub record IsBetweenTurns (tap : TapView) : Type 0 where
 -- turn t + 1 went by, and emitted these bytes
 pub record TurnMoves (own : Tributary) (first now : InView) (read : List ℕ) (t : ℕ) (old new : TapView)
     (emitted : List ℕ) : Type 0 where
-  pub came : List ℕ
-  pub stands : TapStands own first now (read ++ came) (t + 1) new
-  pub earlier : (available : List ℕ) → MayBe false new.line.reader.ending (read ++ came) available
+  pub further : List ℕ
+  pub stands : TapStands own first now (read ++ further) (t + 1) new
+  pub earlier : (available : List ℕ) → MayBe false new.line.reader.ending (read ++ further) available
       → MayBe false old.line.reader.ending read available
-  pub emits : (available : List ℕ) → MayBe false new.line.reader.ending (read ++ came) available
+  pub emits : (available : List ℕ) → MayBe false new.line.reader.ending (read ++ further) available
       → emitted ≡ emitted_at own available t
-  pub ended : (available : List ℕ) → MayBe false new.line.reader.ending (read ++ came) available
+  pub ended : (available : List ℕ) → MayBe false new.line.reader.ending (read ++ further) available
       → new.line.ended ≡ has_ended (line_state OTU2_SLOTS (mfas_of available) (t + 1))

@@ -11,7 +11,7 @@ use Rattle.tributary_model.specs.declared.turns.SinkState.TheVariants.{Waiting, 
 use Rattle.tributary_model.specs.Places.{Tributary, View, Taken, msi_in}
 use Rattle.tributary_model.specs.Carries.{cm_in, cnd_in}
 use Rattle.tributary_model.specs.Messages.{hears_message}
-use Rattle.tributary_model.specs.Stretches.{Part, came, course, state_of}
+use Rattle.tributary_model.specs.Stretches.{Part, msi_read, course, state_of}
 use Rattle.tributary_model.specs.Emission.{emitted_total, amount_of}
 
 -- how many bytes each turn emits, in their order
@@ -49,39 +49,39 @@ nine = replicate 8 steady ++ first ∷ []
 
 -- one damaged message, in turn 10, changes nothing
 one_damaged : amounts odu0 (steady ∷ steady ∷ damaged ∷ nine) ≡ 0 ∷ 0 ∷ replicate 10 15168
-unfolding amounts emitted_total odu0 first steady damaged nine with_message course came hears_message says says_cnd hears hears_cnd turned inverted_at number_of same one_more one_less two_more two_less crc8_of crc5_of check_of remainder_from low_bits bits_of
+unfolding amounts emitted_total odu0 first steady damaged nine with_message course msi_read hears_message says says_cnd hears hears_cnd turned inverted_at number_of same one_more one_less two_more two_less crc8_of crc5_of check_of remainder_from low_bits bits_of
 one_damaged = refl
 
 one_damaged_states : states odu0 (steady ∷ steady ∷ damaged ∷ nine) ≡ replicate 12 Up
-unfolding states states_back odu0 first steady damaged nine with_message course came hears_message says says_cnd hears hears_cnd turned inverted_at number_of same one_more one_less two_more two_less crc8_of crc5_of check_of remainder_from low_bits bits_of
+unfolding states states_back odu0 first steady damaged nine with_message course msi_read hears_message says says_cnd hears hears_cnd turned inverted_at number_of same one_more one_less two_more two_less crc8_of crc5_of check_of remainder_from low_bits bits_of
 one_damaged_states = refl
 
 -- damaged in turns 10 to 15: turn 12 is the ending turn, 13 to 15 are Down, 16 accepts, 16 and 17 emit nothing
 six_damaged : amounts odu0 (steady ∷ steady ∷ steady ∷ replicate 6 damaged ++ nine)
     ≡ 0 ∷ 0 ∷ replicate 10 15168 ++ (15168 ∷ 15168 ∷ 15168 ∷ 0 ∷ 0 ∷ 15168 ∷ [])
-unfolding amounts emitted_total odu0 first steady damaged nine with_message course came hears_message says says_cnd hears hears_cnd turned inverted_at number_of same one_more one_less two_more two_less crc8_of crc5_of check_of remainder_from low_bits bits_of
+unfolding amounts emitted_total odu0 first steady damaged nine with_message course msi_read hears_message says says_cnd hears hears_cnd turned inverted_at number_of same one_more one_less two_more two_less crc8_of crc5_of check_of remainder_from low_bits bits_of
 six_damaged = refl
 
 six_damaged_states : states odu0 (steady ∷ steady ∷ steady ∷ replicate 6 damaged ++ nine) ≡ replicate 11 Up ++ (Down ∷ Down ∷ Down ∷ Down ∷ Up ∷ Up ∷ Up ∷ [])
-unfolding states states_back odu0 first steady damaged nine with_message course came hears_message says says_cnd hears hears_cnd turned inverted_at number_of same one_more one_less two_more two_less crc8_of crc5_of check_of remainder_from low_bits bits_of
+unfolding states states_back odu0 first steady damaged nine with_message course msi_read hears_message says says_cnd hears hears_cnd turned inverted_at number_of same one_more one_less two_more two_less crc8_of crc5_of check_of remainder_from low_bits bits_of
 six_damaged_states = refl
 
 -- no multiframe in turn 10: it is the ending turn, 11 accepts, 11 and 12 emit nothing
 one_lost : amounts odu0 (steady ∷ steady ∷ steady ∷ None ∷ nine) ≡ 0 ∷ 0 ∷ replicate 7 15168 ++ (15168 ∷ 0 ∷ 0 ∷ 15168 ∷ [])
-unfolding amounts emitted_total odu0 first steady nine with_message course came hears_message says says_cnd hears hears_cnd turned inverted_at number_of same one_more one_less two_more two_less crc8_of crc5_of check_of remainder_from low_bits bits_of
+unfolding amounts emitted_total odu0 first steady nine with_message course msi_read hears_message says says_cnd hears hears_cnd turned inverted_at number_of same one_more one_less two_more two_less crc8_of crc5_of check_of remainder_from low_bits bits_of
 one_lost = refl
 
 one_lost_states : states odu0 (steady ∷ steady ∷ steady ∷ None ∷ nine) ≡ replicate 9 Up ++ (Down ∷ Up ∷ Up ∷ Up ∷ [])
-unfolding states states_back odu0 first steady nine with_message course came hears_message says says_cnd hears hears_cnd turned inverted_at number_of same one_more one_less two_more two_less crc8_of crc5_of check_of remainder_from low_bits bits_of
+unfolding states states_back odu0 first steady nine with_message course msi_read hears_message says says_cnd hears hears_cnd turned inverted_at number_of same one_more one_less two_more two_less crc8_of crc5_of check_of remainder_from low_bits bits_of
 one_lost_states = refl
 
 -- no multiframe at all: Waiting for three turns, then AIS
 never_accepted : amounts odu0 (replicate 5 None) ≡ 0 ∷ 0 ∷ 0 ∷ 15168 ∷ 15168 ∷ []
-unfolding amounts odu0 course came
+unfolding amounts odu0 course msi_read
 never_accepted = refl
 
 never_accepted_states : states odu0 (replicate 5 None) ≡ Waiting ∷ Waiting ∷ Down ∷ Down ∷ Down ∷ []
-unfolding states states_back odu0 course came
+unfolding states states_back odu0 course msi_read
 never_accepted_states = refl
 
 -- messages that each say a pair after the pair before it
@@ -94,7 +94,7 @@ flex = record { line_slots = 8; slots = 1 ∷ 2 ∷ 3 ∷ []; port = 1 }
 
 remainders : amounts flex (reverse (said_after None ((0, 0) ∷ (15000, 1) ∷ (15000, 1) ∷ (15000, 2) ∷ (15000, 2) ∷ (15001, 0) ∷ (15000, 0) ∷ [])))
     ≡ 0 ∷ 0 ∷ 0 ∷ 45001 ∷ 45000 ∷ 45001 ∷ 45000 ∷ []
-unfolding amounts emitted_total flex said_after with_message course came hears_message says says_cnd hears hears_cnd turned inverted_at number_of same one_more one_less two_more two_less crc8_of crc5_of check_of remainder_from low_bits bits_of
+unfolding amounts emitted_total flex said_after with_message course msi_read hears_message says says_cnd hears hears_cnd turned inverted_at number_of same one_more one_less two_more two_less crc8_of crc5_of check_of remainder_from low_bits bits_of
 remainders = refl
 
 -- a slot is marked after two wrong MSI bytes in a row of its own, and no more after a right one
@@ -103,7 +103,7 @@ msi_turn bytes = Some (record { groups = []; message = 0xED ∷ 0x00 ∷ 0x39 �
 
 marked_states : states odu0 (msi_turn ((3, 0x80) ∷ []) ∷ msi_turn ((3, 0x81) ∷ []) ∷ msi_turn ((3, 0x81) ∷ []) ∷ msi_turn ((3, 0x80) ∷ []) ∷ msi_turn ((3, 0xC0) ∷ []) ∷ first ∷ [])
     ≡ Up ∷ Up ∷ Up ∷ Up ∷ Down ∷ Up ∷ []
-unfolding states states_back odu0 first msi_turn with_message course came hears_message says says_cnd hears hears_cnd turned inverted_at number_of same one_more one_less two_more two_less crc8_of crc5_of check_of remainder_from low_bits bits_of
+unfolding states states_back odu0 first msi_turn with_message course msi_read hears_message says says_cnd hears hears_cnd turned inverted_at number_of same one_more one_less two_more two_less crc8_of crc5_of check_of remainder_from low_bits bits_of
 marked_states = refl
 
 -- a client of three slots that brings 45,001 and 45,000 bytes in turn: the pairs that carry them
@@ -134,7 +134,7 @@ unsteady_pairs : map {B = ℕ × ℕ} (λ t. (cm_in 3 (4 ∷ 1 ∷ 4 ∷ []) t, 
 unsteady_pairs = refl
 
 unsteady : amounts flex (reverse (said_after None ((1, 1) ∷ (0, 2) ∷ (2, 0) ∷ []))) ≡ 0 ∷ 0 ∷ 3 ∷ []
-unfolding amounts emitted_total flex said_after with_message course came hears_message says says_cnd hears hears_cnd turned inverted_at number_of same one_more one_less two_more two_less crc8_of crc5_of check_of remainder_from low_bits bits_of
+unfolding amounts emitted_total flex said_after with_message course msi_read hears_message says says_cnd hears hears_cnd turned inverted_at number_of same one_more one_less two_more two_less crc8_of crc5_of check_of remainder_from low_bits bits_of
 unsteady = refl
 
 -- Why they are to bring at most the groups of a multiframe: the message of one more is damaged.

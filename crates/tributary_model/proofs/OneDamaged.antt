@@ -9,7 +9,7 @@ use Rattle.tributary_model.specs.declared.turns.SinkState.{SinkState}
 use Rattle.tributary_model.specs.declared.turns.SinkState.TheVariants.{Waiting, Down}
 use Rattle.tributary_model.specs.Places.{Tributary, View}
 use Rattle.tributary_model.specs.Messages.{hears_message}
-use Rattle.tributary_model.specs.Stretches.{Member, Part, WaitingTurn, DownTurn, StretchTurn, EndingTurn, came, msi_of, any_marked, fit, is_damaged, two_damaged, goes_on_with, goes_on, is_of_stretch, opens, continues, next_part, course, state_of, state_after}
+use Rattle.tributary_model.specs.Stretches.{Member, Part, WaitingTurn, DownTurn, StretchTurn, EndingTurn, msi_read, msi_of, any_marked, fit, is_damaged, two_damaged, goes_on_with, goes_on, is_of_stretch, opens, continues, next_part, course, state_of, state_after}
 use Rattle.tributary_model.specs.Emission.{data_bytes, extracted, extracted_total, due_total, emitted_total, cm_sum, emits_in, emits_at_end, down_run, stream_bytes, emits, emission}
 use Rattle.tributary_model.specs.Damage.{pair_had, is_third, NeverThree, emissions, states, IsAsIfRepeated}
 use Rattle.tributary_model.proofs.Law.{course_next}
@@ -183,12 +183,12 @@ mute_next_is own marked view (StretchTurn stretch ∷ parts) e =
 
 -- ---- two lists that differ in a message
 
-came_next : (k : ℕ) (view : Option View) (past : List (Option View)) → came k (view ∷ past) ≡ came k past ++ msi_of k view
-unfolding came
+came_next : (k : ℕ) (view : Option View) (past : List (Option View)) → msi_read k (view ∷ past) ≡ msi_read k past ++ msi_of k view
+unfolding msi_read
 came_next k view past = refl
 
 came_same : (k : ℕ) (past later : List (Option View)) (view : View) (said : List ℕ)
-    → came k (later ++ Some view ∷ past) ≡ came k (later ++ Some (record view { message = said }) ∷ past)
+    → msi_read k (later ++ Some view ∷ past) ≡ msi_read k (later ++ Some (record view { message = said }) ∷ past)
 came_same k past [] view said = came_next k (Some view) past ∙ sym (came_next k (Some (record view { message = said })) past)
 came_same k past (v ∷ later) view said =
     came_next k v (later ++ Some view ∷ past)

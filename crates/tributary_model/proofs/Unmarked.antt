@@ -7,7 +7,7 @@ use Rattle.std.proofs.lemmas.List.{append-nil, append_assoc, reverse-append}
 use Rattle.std.proofs.lemmas.List.Elements.{All-map, All-filter}
 use Rattle.msi_table.specs.Marks.{msi_byte, both_wrong, is_marked}
 use Rattle.tributary_model.specs.Places.{Tributary, View}
-use Rattle.tributary_model.specs.Stretches.{came, msi_of, bytes_of, any_marked}
+use Rattle.tributary_model.specs.Stretches.{msi_read, msi_of, bytes_of, any_marked}
 use Rattle.tributary_model.proofs.Sizes.{All_first, All_rest}
 
 first_right : (right y : ℕ) (rest : List ℕ) → y ≡ right → both_wrong right (y ∷ rest) ≡ false
@@ -32,25 +32,25 @@ none_any : (f : ℕ → Bool) (xs : List ℕ) → ((k : ℕ) → f k ≡ false) 
 none_any f [] h = refl
 none_any f (x ∷ xs) h = or_from (f x) (list_any f xs) (h x) (none_any f xs h)
 
-came_next : (k : ℕ) (view : Option View) (past : List (Option View)) → came k (view ∷ past) ≡ came k past ++ msi_of k view
-unfolding came
+came_next : (k : ℕ) (view : Option View) (past : List (Option View)) → msi_read k (view ∷ past) ≡ msi_read k past ++ msi_of k view
+unfolding msi_read
 came_next k view past = refl
 
-came_first : (k : ℕ) → came k [] ≡ []
-unfolding came
+came_first : (k : ℕ) → msi_read k [] ≡ []
+unfolding msi_read
 came_first k = refl
 
 pub unmarked_first : (own : Tributary) → any_marked own [] ≡ false
-unmarked_first own = none_any (λ k. is_marked own.port (came k [])) own.slots (λ k. ap (is_marked own.port) (came_first k))
+unmarked_first own = none_any (λ k. is_marked own.port (msi_read k [])) own.slots (λ k. ap (is_marked own.port) (came_first k))
 
 pub unmarked_next : (own : Tributary) (past : List (Option View)) (view : View) → any_marked own past ≡ false → All (λ x. x.1 ≡ msi_byte own.port) view.msi
     → any_marked own (Some view ∷ past) ≡ false
-unmarked_next own past view e h = any_false (λ k. is_marked own.port (came k past)) (λ k. is_marked own.port (came k (Some view ∷ past))) own.slots slot e
+unmarked_next own past view e h = any_false (λ k. is_marked own.port (msi_read k past)) (λ k. is_marked own.port (msi_read k (Some view ∷ past))) own.slots slot e
   where
     right_bytes : (k : ℕ) → All (λ y. y ≡ msi_byte own.port) (bytes_of k view.msi)
     right_bytes k =
         All-map (λ y. y ≡ msi_byte own.port) (λ (p : ℕ × ℕ). p.1) (filter (λ (p : ℕ × ℕ). p.0 == k) view.msi)
         (All-filter (λ (p : ℕ × ℕ). p.0 == k) (λ (p : ℕ × ℕ). p.1 ≡ msi_byte own.port) view.msi h)
 
-    slot : (k : ℕ) → is_marked own.port (came k past) ≡ false → is_marked own.port (came k (Some view ∷ past)) ≡ false
-    slot k f = ap (is_marked own.port) (came_next k (Some view) past) ∙ stays_unmarked (msi_byte own.port) (bytes_of k view.msi) (came k past) f (right_bytes k)
+    slot : (k : ℕ) → is_marked own.port (msi_read k past) ≡ false → is_marked own.port (msi_read k (Some view ∷ past)) ≡ false
+    slot k f = ap (is_marked own.port) (came_next k (Some view) past) ∙ stays_unmarked (msi_byte own.port) (bytes_of k view.msi) (msi_read k past) f (right_bytes k)

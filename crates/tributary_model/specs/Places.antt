@@ -85,7 +85,7 @@ pub record View : Type 0 where
   pub message : List ℕ
   pub msi : List (ℕ × ℕ)
 
--- the view of a tributary in the frames of a multiframe, and in a turn: None where it has none, so that no byte counts
+-- the view of a tributary in a multiframe's frames, and in a turn: None without a multiframe, so that no byte counts
 unfoldable pub view_of : Tributary → List Taken → View
 view_of own frames = record {
   groups = flat_map (λ t. frame_groups own t.frame) frames;

@@ -17,7 +17,7 @@ abbrev pub groups_of : Option View → List (List ℕ)
 groups_of None = []
 groups_of (Some view) = view.groups
 
--- the MSI bytes of slot k: those among bytes with their slots, and that came in a turn, and in all turns so far
+-- the MSI bytes of slot k: those among bytes with their slots, those of a turn, and those of all turns, as they came
 abbrev pub bytes_of : (k : ℕ) → List (ℕ × ℕ) → List ℕ
 bytes_of k msi = map (λ p. p.1) (filter (λ p. p.0 == k) msi)
 
@@ -25,13 +25,13 @@ abbrev pub msi_of : (k : ℕ) → Option View → List ℕ
 msi_of k None = []
 msi_of k (Some view) = bytes_of k view.msi
 
-unfoldable pub came : (k : ℕ) → List (Option View) → List ℕ
-came k [] = []
-came k (view ∷ past) = came k past ++ msi_of k view
+unfoldable pub msi_read : (k : ℕ) → List (Option View) → List ℕ
+msi_read k [] = []
+msi_read k (view ∷ past) = msi_read k past ++ msi_of k view
 
 -- whether an own slot is marked after these turns: the last two of its MSI bytes that came were both wrong
 abbrev pub any_marked : Tributary → List (Option View) → Bool
-any_marked own past = list_any (λ k. is_marked own.port (came k past)) own.slots
+any_marked own past = list_any (λ k. is_marked own.port (msi_read k past)) own.slots
 
 -- ---- stretches
 
@@ -70,7 +70,7 @@ abbrev pub two_damaged : List Member → Bool
 two_damaged (last ∷ before ∷ earlier) = is_damaged last.heard && is_damaged before.heard
 two_damaged other = false
 
--- The next turn of a stretch, its message heard after the last number: with that pair, or with the last pair again
+-- The next turn of a stretch, its message heard after the last number: with the pair heard, or with the last again
 -- where the message is damaged. There is none, and the stretch ends, where the message is lost, or damaged after two
 -- damaged ones, where the turn has no multiframe, or where an own slot is marked.
 abbrev pub goes_on_with : View → (two : Bool) → (last : Member) → Hearing → Option Member
@@ -85,8 +85,8 @@ goes_on own false (Some view) (last ∷ before) =
     goes_on_with view (two_damaged (last ∷ before)) last (hears_message (Some last.cm) (length own.slots) view.message)
 goes_on own marked view stretch = None
 
--- A turn that is in no stretch and begins none: Waiting where no turn before it was of a stretch, or ended one, and it
--- is one of the first three, else Down.
+-- Whether a turn is of a stretch, or ends one. A turn in no stretch that begins none: Waiting where no turn before it
+-- was such a one and it is one of the first three, else Down.
 abbrev pub is_of_stretch : Part → Bool
 is_of_stretch WaitingTurn = false
 is_of_stretch DownTurn = false

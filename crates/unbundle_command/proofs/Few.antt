@@ -185,19 +185,19 @@ one_packet cid (PacketOn other packet) = by_test _
     by_test false = omega arith
 one_packet cid (LossOn other) = omega arith
 
-pub packets_few : (cid : ℕ) (came : List ChannelArrival) → length (packets_on cid came) ≤ length came
+pub packets_few : (cid : ℕ) (further : List ChannelArrival) → length (packets_on cid further) ≤ length further
 packets_few cid [] = omega arith
-packets_few cid (arrival ∷ came) =
-    let both = length-append (packet_on cid arrival) (packets_on cid came) in
+packets_few cid (arrival ∷ further) =
+    let both = length-append (packet_on cid arrival) (packets_on cid further) in
     let one = one_packet cid arrival in
-    let later = packets_few cid came in
+    let later = packets_few cid further in
     omega arith
 
-pub filter_few : (f : ChannelArrival → Bool) (came : List ChannelArrival) → length (filter f came) ≤ length came
+pub filter_few : (f : ChannelArrival → Bool) (further : List ChannelArrival) → length (filter f further) ≤ length further
 filter_few f [] = omega arith
-filter_few f (arrival ∷ came) = by_test (f arrival) (filter_few f came)
+filter_few f (arrival ∷ further) = by_test (f arrival) (filter_few f further)
   where
-    by_test : (b : Bool) → length (filter f came) ≤ length came → length (cond b (arrival ∷ filter f came) (filter f came)) ≤ suc (length came)
+    by_test : (b : Bool) → length (filter f further) ≤ length further → length (cond b (arrival ∷ filter f further) (filter f further)) ≤ suc (length further)
     by_test true few = omega (arith, few)
     by_test false few = omega (arith, few)
 

@@ -89,54 +89,54 @@ same_read : (xs ys : List ℕ) (reader : ReaderState) → xs ≡ ys → HasRead 
 same_read xs ys reader e h = let P : List ℕ → Type 0 = λ x. HasRead x reader in subst P e h
 
 -- the run that is open is read on
-pub goes_on : (first now : BaysView) (came : List Arrival) (reader : ReaderState) (outputs : OutputsView) → AllRead first now came reader outputs
-    → RunRead first now (flat_map channel_arrivals (before came)) (open_run came) reader outputs
-goes_on first now came reader outputs h = record {
-  read = h.read;
-  held = same_held first now (flat_map channel_arrivals (runs_of came)) (flat_map channel_arrivals (before came) ++ channel_arrivals (open_run came)) outputs (arrived-same came) h.held;
+pub goes_on : (first now : BaysView) (further : List Arrival) (reader : ReaderState) (outputs : OutputsView) → AllRead first now further reader outputs
+    → RunRead first now (flat_map channel_arrivals (before further)) (open_run further) reader outputs
+goes_on first now further reader outputs h = record {
+  has_read = h.has_read;
+  held = same_held first now (flat_map channel_arrivals (runs_of further)) (flat_map channel_arrivals (before further) ++ channel_arrivals (open_run further)) outputs (arrived-same further) h.held;
 }
 
-pub whole_read : (first now : BaysView) (came : List Arrival) (frame : List ℕ) (reader : ReaderState) (outputs : OutputsView)
-    → RunRead first now (flat_map channel_arrivals (before came)) (open_run came ++ payload_of frame) reader outputs → AllRead first now (came ++ Handed frame ∷ []) reader outputs
-whole_read first now came frame reader outputs h = record {
-  read =
-      same_read (open_run came ++ payload_of frame) (last_run (runs_of (came ++ Handed frame ∷ []))) reader
-      (sym (ap last_run (runs-handed came frame) ∙ last-append (before came) (open_run came ++ payload_of frame))) h.read;
+pub whole_read : (first now : BaysView) (further : List Arrival) (frame : List ℕ) (reader : ReaderState) (outputs : OutputsView)
+    → RunRead first now (flat_map channel_arrivals (before further)) (open_run further ++ payload_of frame) reader outputs → AllRead first now (further ++ Handed frame ∷ []) reader outputs
+whole_read first now further frame reader outputs h = record {
+  has_read =
+      same_read (open_run further ++ payload_of frame) (last_run (runs_of (further ++ Handed frame ∷ []))) reader
+      (sym (ap last_run (runs-handed further frame) ∙ last-append (before further) (open_run further ++ payload_of frame))) h.has_read;
   held =
-      same_held first now (flat_map channel_arrivals (before came) ++ channel_arrivals (open_run came ++ payload_of frame)) (flat_map channel_arrivals (runs_of (came ++ Handed frame ∷ []))) outputs
-      (sym (arrived-handed came frame)) h.held;
+      same_held first now (flat_map channel_arrivals (before further) ++ channel_arrivals (open_run further ++ payload_of frame)) (flat_map channel_arrivals (runs_of (further ++ Handed frame ∷ []))) outputs
+      (sym (arrived-handed further frame)) h.held;
 }
 
 -- a break begins a run
-pub break_read : (first now : BaysView) (came : List Arrival) (old new : ReaderState) (outputs : OutputsView) → HasRead [] new → AllRead first now came old outputs → AllRead first now (came ++ Broken ∷ []) new outputs
-break_read first now came old new outputs fresh h = record {
-  read =
-      same_read [] (last_run (runs_of (came ++ Broken ∷ []))) new
-      (sym (ap last_run (runs-broken came) ∙ last-append (before came ++ open_run came ∷ []) [])) fresh;
-  held = same_held first now (flat_map channel_arrivals (runs_of came)) (flat_map channel_arrivals (runs_of (came ++ Broken ∷ []))) outputs (sym (arrived-broken came)) h.held;
+pub break_read : (first now : BaysView) (further : List Arrival) (old new : ReaderState) (outputs : OutputsView) → HasRead [] new → AllRead first now further old outputs → AllRead first now (further ++ Broken ∷ []) new outputs
+break_read first now further old new outputs fresh h = record {
+  has_read =
+      same_read [] (last_run (runs_of (further ++ Broken ∷ []))) new
+      (sym (ap last_run (runs-broken further) ∙ last-append (before further ++ open_run further ∷ []) [])) fresh;
+  held = same_held first now (flat_map channel_arrivals (runs_of further)) (flat_map channel_arrivals (runs_of (further ++ Broken ∷ []))) outputs (sym (arrived-broken further)) h.held;
 }
 
-pub nothing_read : (first now : BaysView) (came : List Arrival) (reader : ReaderState) (outputs : OutputsView) → AllRead first now came reader outputs → AllRead first now (came ++ []) reader outputs
-nothing_read first now came reader outputs h = let P : List Arrival → Type 0 = λ x. AllRead first now x reader outputs in subst P (sym (append-nil came)) h
+pub nothing_read : (first now : BaysView) (further : List Arrival) (reader : ReaderState) (outputs : OutputsView) → AllRead first now further reader outputs → AllRead first now (further ++ []) reader outputs
+nothing_read first now further reader outputs h = let P : List Arrival → Type 0 = λ x. AllRead first now x reader outputs in subst P (sym (append-nil further)) h
 
-pub none_more : (first now : BaysView) (came : List ChannelArrival) (outputs : OutputsView) → OutputsStand first now came outputs → OutputsStand first now (came ++ []) outputs
-none_more first now came outputs = same_held first now came (came ++ []) outputs (sym (append-nil came))
+pub none_more : (first now : BaysView) (further : List ChannelArrival) (outputs : OutputsView) → OutputsStand first now further outputs → OutputsStand first now (further ++ []) outputs
+none_more first now further outputs = same_held first now further (further ++ []) outputs (sym (append-nil further))
 
 -- some bytes more of a run, in which this arrives
-pub run_more : (first old new : BaysView) (earlier : List ChannelArrival) (taken came : List ℕ) (more : List ChannelArrival) (was is : ReaderState) (outputs next : OutputsView)
-    → channel_arrivals (taken ++ came) ≡ channel_arrivals taken ++ more → HasRead (taken ++ came) is
-    → (OutputsStand first old (earlier ++ channel_arrivals taken) outputs → OutputsStand first new ((earlier ++ channel_arrivals taken) ++ more) next)
-    → RunRead first old earlier taken was outputs → RunRead first new earlier (taken ++ came) is next
-run_more first old new earlier taken came more was is outputs next e read goes h = record {
-  read = read;
+pub run_more : (first old new : BaysView) (earlier : List ChannelArrival) (read further : List ℕ) (more : List ChannelArrival) (was is : ReaderState) (outputs next : OutputsView)
+    → channel_arrivals (read ++ further) ≡ channel_arrivals read ++ more → HasRead (read ++ further) is
+    → (OutputsStand first old (earlier ++ channel_arrivals read) outputs → OutputsStand first new ((earlier ++ channel_arrivals read) ++ more) next)
+    → RunRead first old earlier read was outputs → RunRead first new earlier (read ++ further) is next
+run_more first old new earlier read further more was is outputs next e has_read goes h = record {
+  has_read = has_read;
   held =
-      same_held first new ((earlier ++ channel_arrivals taken) ++ more) (earlier ++ channel_arrivals (taken ++ came)) next
-      (append_assoc earlier (channel_arrivals taken) more ∙ ap (λ ps. earlier ++ ps) (sym e)) (goes h.held);
+      same_held first new ((earlier ++ channel_arrivals read) ++ more) (earlier ++ channel_arrivals (read ++ further)) next
+      (append_assoc earlier (channel_arrivals read) more ∙ ap (λ ps. earlier ++ ps) (sym e)) (goes h.held);
 }
 
-pub run_same : (first now : BaysView) (earlier : List ChannelArrival) (taken others : List ℕ) (reader : ReaderState) (outputs : OutputsView) → taken ≡ others → RunRead first now earlier taken reader outputs
+pub run_same : (first now : BaysView) (earlier : List ChannelArrival) (read others : List ℕ) (reader : ReaderState) (outputs : OutputsView) → read ≡ others → RunRead first now earlier read reader outputs
     → RunRead first now earlier others reader outputs
-run_same first now earlier taken others reader outputs e h = let P : List ℕ → Type 0 = λ x. RunRead first now earlier x reader outputs in subst P e h
+run_same first now earlier read others reader outputs e h = let P : List ℕ → Type 0 = λ x. RunRead first now earlier x reader outputs in subst P e h
 
 -- ---- pieces of bytes, and rows of a frame
 
@@ -152,13 +152,13 @@ all_taken front bytes done within over = let e : done ≡ length bytes = omega a
 pub piece_within : (bytes : List ℕ) (done k : ℕ) → done ≤ length bytes → k ≤ length (take (length bytes - done) (drop done bytes)) → done + k ≤ length bytes
 piece_within bytes done k within h = let e = ap length (take_rest bytes done) in let f = length-drop done bytes in omega arith
 
-four_rows : (taken a b c d : List ℕ) → taken ++ a ++ b ++ c ++ d ≡ taken ++ (a ++ b ++ c ++ d)
-four_rows taken a b c d = ap (λ x. x ++ d) (ap (λ x. x ++ c) (append_assoc taken a b) ∙ append_assoc taken (a ++ b) c) ∙ append_assoc taken (a ++ b ++ c) d
+four_rows : (read a b c d : List ℕ) → read ++ a ++ b ++ c ++ d ≡ read ++ (a ++ b ++ c ++ d)
+four_rows read a b c d = ap (λ x. x ++ d) (ap (λ x. x ++ c) (append_assoc read a b) ∙ append_assoc read (a ++ b) c) ∙ append_assoc read (a ++ b ++ c) d
 
-pub frame_read : (first now : BaysView) (earlier : List ChannelArrival) (taken frame a b c d : List ℕ) (reader : ReaderState) (outputs : OutputsView) → a ≡ payload_row_of 3824 1 frame → b ≡ payload_row_of 3824 2 frame
-    → c ≡ payload_row_of 3824 3 frame → d ≡ payload_row_of 3824 4 frame → RunRead first now earlier (taken ++ a ++ b ++ c ++ d) reader outputs → RunRead first now earlier (taken ++ payload_of frame) reader outputs
-frame_read first now earlier taken frame a b c d reader outputs ea eb ec ed h =
-    run_same first now earlier (taken ++ a ++ b ++ c ++ d) (taken ++ payload_of frame) reader outputs (four_rows taken a b c d ∙ rw (ea, eb, ec, ed) refl) h
+pub frame_read : (first now : BaysView) (earlier : List ChannelArrival) (read frame a b c d : List ℕ) (reader : ReaderState) (outputs : OutputsView) → a ≡ payload_row_of 3824 1 frame → b ≡ payload_row_of 3824 2 frame
+    → c ≡ payload_row_of 3824 3 frame → d ≡ payload_row_of 3824 4 frame → RunRead first now earlier (read ++ a ++ b ++ c ++ d) reader outputs → RunRead first now earlier (read ++ payload_of frame) reader outputs
+frame_read first now earlier read frame a b c d reader outputs ea eb ec ed h =
+    run_same first now earlier (read ++ a ++ b ++ c ++ d) (read ++ payload_of frame) reader outputs (four_rows read a b c d ∙ rw (ea, eb, ec, ed) refl) h
 
 -- ---- what the aligner takes
 
@@ -177,27 +177,27 @@ run-none = ap (λ xs. last_run (runs_of xs)) arrivals-none
 
 pub holds_none : (first now : BaysView) (aligner : AlignerState) (reader : ReaderState) (outputs : OutputsView) → HasAligned [] aligner → HasRead [] reader → OutputsStand first now [] outputs
     → HoldsAfter first now [] aligner reader outputs
-holds_none first now aligner reader outputs aligned read held = record {
+holds_none first now aligner reader outputs aligned has_read held = record {
   aligned = aligned;
-  read = same_read [] (last_run (runs_of (arrivals []))) reader (sym run-none) read;
+  has_read = same_read [] (last_run (runs_of (arrivals []))) reader (sym run-none) has_read;
   held = same_held first now [] (client_arrivals []) outputs (sym client-none) held;
 }
 
 -- what was read of some bytes, without the aligner
-pub all_read : (first now : BaysView) (taken : List ℕ) (aligner : AlignerState) (reader : ReaderState) (outputs : OutputsView) → HoldsAfter first now taken aligner reader outputs
-    → AllRead first now (arrivals taken) reader outputs
+pub all_read : (first now : BaysView) (read : List ℕ) (aligner : AlignerState) (reader : ReaderState) (outputs : OutputsView) → HoldsAfter first now read aligner reader outputs
+    → AllRead first now (arrivals read) reader outputs
 unfolding client_arrivals
-all_read first now taken aligner reader outputs h = record { read = h.read; held = h.held }
+all_read first now read aligner reader outputs h = record { has_read = h.has_read; held = h.held }
 
 -- bytes came, and what they have was read
-pub holds_more : (first old now : BaysView) (taken came frame : List ℕ) (r : Aligned) (was is : AlignerState) (reader next : ReaderState) (outputs kept : OutputsView) → AlignsBy taken came r frame is
-    → AllRead first now (arrivals taken ++ news r frame) next kept → HoldsAfter first old taken was reader outputs → HoldsAfter first now (taken ++ came) is next kept
+pub holds_more : (first old now : BaysView) (read further frame : List ℕ) (r : Aligned) (was is : AlignerState) (reader next : ReaderState) (outputs kept : OutputsView) → AlignsBy read further r frame is
+    → AllRead first now (arrivals read ++ news r frame) next kept → HoldsAfter first old read was reader outputs → HoldsAfter first now (read ++ further) is next kept
 unfolding client_arrivals
-holds_more first old now taken came frame r was is reader next outputs kept aligns all h =
+holds_more first old now read further frame r was is reader next outputs kept aligns all h =
     let P : List Arrival → Type 0 = λ xs. AllRead first now xs next kept in
-    let read = subst P (sym aligns.arrived) all in
-    record { aligned = aligns.aligned; read = read.read; held = read.held }
+    let all_read = subst P (sym aligns.arrived) all in
+    record { aligned = aligns.aligned; has_read = all_read.has_read; held = all_read.held }
 
-pub holds_same : (first now : BaysView) (taken others : List ℕ) (aligner : AlignerState) (reader : ReaderState) (outputs : OutputsView) → taken ≡ others → HoldsAfter first now taken aligner reader outputs
+pub holds_same : (first now : BaysView) (read others : List ℕ) (aligner : AlignerState) (reader : ReaderState) (outputs : OutputsView) → read ≡ others → HoldsAfter first now read aligner reader outputs
     → HoldsAfter first now others aligner reader outputs
-holds_same first now taken others aligner reader outputs e h = let P : List ℕ → Type 0 = λ x. HoldsAfter first now x aligner reader outputs in subst P e h
+holds_same first now read others aligner reader outputs e h = let P : List ℕ → Type 0 = λ x. HoldsAfter first now x aligner reader outputs in subst P e h

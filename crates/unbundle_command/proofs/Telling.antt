@@ -10,19 +10,19 @@ use Rattle.unbundle_command.proofs.Few.{packets_few, filter_few, told_exactly}
 use Rattle.unbundle_command.proofs.Turns.{flat_more}
 
 -- the line of one channel more
-pub line_more : (first now : BaysView) (came : List ChannelArrival) (outputs : OutputsView) (cid : ℕ) (channel : ChannelView) (start was is : List ℕ) → OutputsStand first now came outputs → length came ≤ 2 ^ 64 - 1 → cid < CLIENTS
-    → channel ≡ channel_at outputs.channels cid → was ≡ start ++ channel_lines came cid → is ≡ was ++ channel_line cid channel.packets channel.losses → is ≡ start ++ channel_lines came (cid + 1)
-line_more first now came outputs cid channel start was is h few low same so_far step =
-    let own : ℕ → List ℕ = λ k. channel_line k (packet_count k came) (loss_count k came) in
+pub line_more : (first now : BaysView) (further : List ChannelArrival) (outputs : OutputsView) (cid : ℕ) (channel : ChannelView) (start was is : List ℕ) → OutputsStand first now further outputs → length further ≤ 2 ^ 64 - 1 → cid < CLIENTS
+    → channel ≡ channel_at outputs.channels cid → was ≡ start ++ channel_lines further cid → is ≡ was ++ channel_line cid channel.packets channel.losses → is ≡ start ++ channel_lines further (cid + 1)
+line_more first now further outputs cid channel start was is h few low same so_far step =
+    let own : ℕ → List ℕ = λ k. channel_line k (packet_count k further) (loss_count k further) in
     let stands = h.channels.each cid low in
     let line : channel_line cid channel.packets channel.losses ≡ own cid =
-    ap (λ (ch : ChannelView). channel_line cid ch.packets ch.losses) same ∙ ap (λ n. channel_line cid n (channel_at outputs.channels cid).losses) (stands.packets ∙ told_exactly (packet_count cid came) (length came) (packets_few cid came) few) ∙ ap (λ n. channel_line cid (packet_count cid came) n) (stands.losses ∙ told_exactly (loss_count cid came) (length came) (filter_few (is_loss_on cid) came) few) in
-    step ∙ ap (λ xs. xs ++ channel_line cid channel.packets channel.losses) so_far ∙ append_assoc start (channel_lines came cid) (channel_line cid channel.packets channel.losses)
-    ∙ ap (λ xs. start ++ xs) (ap (λ xs. channel_lines came cid ++ xs) line ∙ sym (ap (channel_lines came) (add-one cid) ∙ flat_more own cid))
+    ap (λ (ch : ChannelView). channel_line cid ch.packets ch.losses) same ∙ ap (λ n. channel_line cid n (channel_at outputs.channels cid).losses) (stands.packets ∙ told_exactly (packet_count cid further) (length further) (packets_few cid further) few) ∙ ap (λ n. channel_line cid (packet_count cid further) n) (stands.losses ∙ told_exactly (loss_count cid further) (length further) (filter_few (is_loss_on cid) further) few) in
+    step ∙ ap (λ xs. xs ++ channel_line cid channel.packets channel.losses) so_far ∙ append_assoc start (channel_lines further cid) (channel_line cid channel.packets channel.losses)
+    ∙ ap (λ xs. start ++ xs) (ap (λ xs. channel_lines further cid ++ xs) line ∙ sym (ap (channel_lines further) (add-one cid) ∙ flat_more own cid))
 
 -- the whole of it
-pub whole_report : (first now : BaysView) (came : List ChannelArrival) (outputs : OutputsView) (start lines last : List ℕ) (other : ℕ) → OutputsStand first now came outputs → length came ≤ 2 ^ 64 - 1 → start ≡ [] → lines ≡ start ++ channel_lines came CLIENTS
-    → other ≡ outputs.other → last ≡ lines ++ other_text other → last ≡ report_text came
+pub whole_report : (first now : BaysView) (further : List ChannelArrival) (outputs : OutputsView) (start lines last : List ℕ) (other : ℕ) → OutputsStand first now further outputs → length further ≤ 2 ^ 64 - 1 → start ≡ [] → lines ≡ start ++ channel_lines further CLIENTS
+    → other ≡ outputs.other → last ≡ lines ++ other_text other → last ≡ report_text further
 unfolding report_text
-whole_report first now came outputs start lines last other h few none so_far same step =
-    step ∙ ap (λ xs. xs ++ other_text other) (so_far ∙ ap (λ xs. xs ++ channel_lines came CLIENTS) none) ∙ ap (λ n. channel_lines came CLIENTS ++ other_text n) (same ∙ h.other ∙ told_exactly (other_count came) (length came) (filter_few is_of_other came) few)
+whole_report first now further outputs start lines last other h few none so_far same step =
+    step ∙ ap (λ xs. xs ++ other_text other) (so_far ∙ ap (λ xs. xs ++ channel_lines further CLIENTS) none) ∙ ap (λ n. channel_lines further CLIENTS ++ other_text n) (same ∙ h.other ∙ told_exactly (other_count further) (length further) (filter_few is_of_other further) few)

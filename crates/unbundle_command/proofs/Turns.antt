@@ -32,14 +32,14 @@ flat_more f n =
     let last : 0 + n ≡ n = omega arith in
     ap (flat_map f) (range_more 0 n) ∙ flat_map-append f (range_with_len 0 n) ((0 + n) ∷ []) ∙ ap (λ xs. flat_map f (range_with_len 0 n) ++ xs) (append-nil (f (0 + n)) ∙ ap f last)
 
-pub emitted_more : (given : List ℕ) (t : ℕ) → emitted_before given (suc t) ≡ emitted_before given t ++ emitted_at first_slot given t
-emitted_more given t = flat_more (emitted_at first_slot given) t
+pub emitted_more : (available : List ℕ) (t : ℕ) → emitted_before available (suc t) ≡ emitted_before available t ++ emitted_at first_slot available t
+emitted_more available t = flat_more (emitted_at first_slot available) t
 
 -- a turn emits no more than there is room for
-one_few : (given : List ℕ) (t : ℕ) (emitted : List ℕ) → emitted ≡ emitted_at first_slot given t → length emitted ≤ 15233 → length (emitted_before given t) ≤ 15233 * t → length (emitted_before given (suc t)) ≤ 15233 * suc t
-one_few given t emitted e room few =
-    let more = ap length (emitted_more given t) ∙ length-append (emitted_before given t) (emitted_at first_slot given t) in
-    let one : length (emitted_at first_slot given t) ≤ 15233 = subst (λ bytes. length bytes ≤ 15233) e room in
+one_few : (available : List ℕ) (t : ℕ) (emitted : List ℕ) → emitted ≡ emitted_at first_slot available t → length emitted ≤ 15233 → length (emitted_before available t) ≤ 15233 * t → length (emitted_before available (suc t)) ≤ 15233 * suc t
+one_few available t emitted e room few =
+    let more = ap length (emitted_more available t) ∙ length-append (emitted_before available t) (emitted_at first_slot available t) in
+    let one : length (emitted_at first_slot available t) ≤ 15233 = subst (λ bytes. length bytes ≤ 15233) e room in
     omega (arith, more, one, few)
 
 -- how many bytes stand from one place to another
@@ -49,17 +49,17 @@ span bytes first last ordered within = sym (simp (length-take, length-drop) (ome
 -- ---- places
 
 -- where the client outputs are as they were
-pub outputs_on : (first was is : BaysView) (came : List ChannelArrival) (outputs : OutputsView) → is.client_out ≡ was.client_out → OutputsStand first was came outputs → OutputsStand first is came outputs
-outputs_on first was is came outputs e h = record {
+pub outputs_on : (first was is : BaysView) (further : List ChannelArrival) (outputs : OutputsView) → is.client_out ≡ was.client_out → OutputsStand first was further outputs → OutputsStand first is further outputs
+outputs_on first was is further outputs e h = record {
   channels = record {
-    each = λ cid low. subst (λ places. ChannelStands (client_out_at first cid) (get_or places cid no_output) cid came (channel_at outputs.channels cid)) (sym e) (h.channels.each cid low);
+    each = λ cid low. subst (λ places. ChannelStands (client_out_at first cid) (get_or places cid no_output) cid further (channel_at outputs.channels cid)) (sym e) (h.channels.each cid low);
   };
   other = h.other;
 }
 
-holds_on : (first was is : BaysView) (taken : List ℕ) (aligner : AlignerState) (reader : ReaderState) (outputs : OutputsView) → is.client_out ≡ was.client_out → HoldsAfter first was taken aligner reader outputs
-    → HoldsAfter first is taken aligner reader outputs
-holds_on first was is taken aligner reader outputs e h = record { aligned = h.aligned; read = h.read; held = outputs_on first was is _ outputs e h.held }
+holds_on : (first was is : BaysView) (read : List ℕ) (aligner : AlignerState) (reader : ReaderState) (outputs : OutputsView) → is.client_out ≡ was.client_out → HoldsAfter first was read aligner reader outputs
+    → HoldsAfter first is read aligner reader outputs
+holds_on first was is read aligner reader outputs e h = record { aligned = h.aligned; has_read = h.has_read; held = outputs_on first was is _ outputs e h.held }
 
 pub line_same : (mid is : BaysView) (x : InView) → OnlyClientsOut mid is → line_in_at mid 0 ≡ x → line_in_at is 0 ≡ x
 line_same mid is x only e = ap (λ places. get_or places 0 no_input) only.line_in ∙ e
@@ -86,38 +86,38 @@ only_twice was mid is h k = record {
 -- before the first turn
 pub begins : (parts : Unbundling) → ((first : InView) → TapStands first_slot first first [] 0 parts.tap) → HasAligned [] (aligner_state parts.aligner) → HasRead [] parts.reader
     → ((first : BaysView) → OutputsStand first first [] parts.outputs) → (first : BaysView) → TurnsGone first first 0 parts
-begins parts tap aligned read held first = record {
-  taken = [];
+begins parts tap aligned has_read held first = record {
+  read = [];
   stands = record {
     tap = tap (line_in_at first 0);
-    holds = λ given may. holds_none first first (aligner_state parts.aligner) parts.reader parts.outputs aligned read (held first);
-    few = λ given may. omega arith;
+    holds = λ available may. holds_none first first (aligner_state parts.aligner) parts.reader parts.outputs aligned has_read (held first);
+    few = λ available may. omega arith;
   };
 }
 
 -- one turn, in which the sink emitted these bytes and they were read
-pub turn_gone : (first was mid is : BaysView) (taken : List ℕ) (t : ℕ) (x x' : InView) (old : Unbundling) (tap : TapView) (aligner : ClientAligner) (reader : ReaderState) (outputs : OutputsView) (emitted : List ℕ)
+pub turn_gone : (first was mid is : BaysView) (read : List ℕ) (t : ℕ) (x x' : InView) (old : Unbundling) (tap : TapView) (aligner : ClientAligner) (reader : ReaderState) (outputs : OutputsView) (emitted : List ℕ)
     → OnlyLineIn 0 was mid → line_in_at was 0 ≡ x → line_in_at mid 0 ≡ x' → OnlyClientsOut mid is → length emitted ≤ 15233
-    → ((own : Tributary) (first : InView) (taken : List ℕ) (t : ℕ) → TapStands own first x taken t old.tap → TurnMoves own first x' taken t old.tap tap emitted)
-    → ((first : BaysView) (taken : List ℕ) → HoldsAfter first mid taken (aligner_state old.aligner) old.reader old.outputs → HoldsAfter first is (taken ++ emitted) (aligner_state aligner) reader outputs)
-    → Stands first was taken t old → TurnGone first is taken t (record { tap = tap; aligner = aligner; reader = reader; outputs = outputs })
-turn_gone first was mid is taken t x x' old tap aligner reader outputs emitted only a b clients room moved read stood =
-    let moves = moved first_slot (line_in_at first 0) taken t (subst (λ v. TapStands first_slot (line_in_at first 0) v taken t old.tap) a stood.tap) in
+    → ((own : Tributary) (first : InView) (read : List ℕ) (t : ℕ) → TapStands own first x read t old.tap → TurnMoves own first x' read t old.tap tap emitted)
+    → ((first : BaysView) (read : List ℕ) → HoldsAfter first mid read (aligner_state old.aligner) old.reader old.outputs → HoldsAfter first is (read ++ emitted) (aligner_state aligner) reader outputs)
+    → Stands first was read t old → TurnGone first is read t (record { tap = tap; aligner = aligner; reader = reader; outputs = outputs })
+turn_gone first was mid is read t x x' old tap aligner reader outputs emitted only a b clients room moved reads stood =
+    let moves = moved first_slot (line_in_at first 0) read t (subst (λ v. TapStands first_slot (line_in_at first 0) v read t old.tap) a stood.tap) in
     let now = line_same mid is x' clients b in
     record {
-      came = moves.came;
+      further = moves.further;
       stands = record {
         tap =
-            subst (λ k. TapStands first_slot (line_in_at first 0) (line_in_at is 0) (taken ++ moves.came) k tap) (add-one t)
-            (subst (λ v. TapStands first_slot (line_in_at first 0) v (taken ++ moves.came) (t + 1) tap) (sym now) moves.stands);
-        holds = λ given may.
-            subst (λ bytes. HoldsAfter first is bytes (aligner_state aligner) reader outputs) (ap (λ bytes. emitted_before given t ++ bytes) (moves.emits given may) ∙ sym (emitted_more given t))
-            (read first (emitted_before given t)
-            (holds_on first was mid (emitted_before given t) (aligner_state old.aligner) old.reader old.outputs only.client_out (stood.holds given (moves.earlier given may))));
-        few = λ given may. one_few given t emitted (moves.emits given may) room (stood.few given (moves.earlier given may));
+            subst (λ k. TapStands first_slot (line_in_at first 0) (line_in_at is 0) (read ++ moves.further) k tap) (add-one t)
+            (subst (λ v. TapStands first_slot (line_in_at first 0) v (read ++ moves.further) (t + 1) tap) (sym now) moves.stands);
+        holds = λ available may.
+            subst (λ bytes. HoldsAfter first is bytes (aligner_state aligner) reader outputs) (ap (λ bytes. emitted_before available t ++ bytes) (moves.emits available may) ∙ sym (emitted_more available t))
+            (reads first (emitted_before available t)
+            (holds_on first was mid (emitted_before available t) (aligner_state old.aligner) old.reader old.outputs only.client_out (stood.holds available (moves.earlier available may))));
+        few = λ available may. one_few available t emitted (moves.emits available may) room (stood.few available (moves.earlier available may));
       };
     }
 
 -- one turn more
-pub one_more : (first was is : BaysView) (t : ℕ) (old new : Unbundling) → ((taken : List ℕ) → Stands first was taken t old → TurnGone first is taken t new) → TurnsGone first was t old → TurnsGone first is (suc t) new
-one_more first was is t old new goes gone = let next = goes gone.taken gone.stands in record { taken = gone.taken ++ next.came; stands = next.stands }
+pub one_more : (first was is : BaysView) (t : ℕ) (old new : Unbundling) → ((read : List ℕ) → Stands first was read t old → TurnGone first is read t new) → TurnsGone first was t old → TurnsGone first is (suc t) new
+one_more first was is t old new goes due = let next = goes due.read due.stands in record { read = due.read ++ next.further; stands = next.stands }

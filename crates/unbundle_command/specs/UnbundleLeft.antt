@@ -17,26 +17,26 @@ use Rattle.otn_ports.specs.declared.ended.Ended.{Ended}
 use Rattle.otn_ports.specs.declared.ended.Ended.TheVariants.{Done, Unfinished, Cut, ReportFault, Memory}
 
 -- the line has more than so many turns want
-abbrev pub HasMore : (turns : ℕ) → (given : List ℕ) → Type 0
-HasMore turns given = line_taken plain_otu2 given turns 0 < length given
+abbrev pub HasMore : (turns : ℕ) → (available : List ℕ) → Type 0
+HasMore turns available = line_taken plain_otu2 available turns 0 < length available
 
 -- a client output is dead, and a packet of its channel arrived
-pub record IsOutputDead (came : List ChannelArrival) (last : BaysView) : Type 0 where
+pub record IsOutputDead (further : List ChannelArrival) (last : BaysView) : Type 0 where
   pub cid : ℕ
   pub low : cid < CLIENTS
-  pub arrived : packets_on cid came ≢ []
+  pub arrived : packets_on cid further ≢ []
   pub dead : (client_out_at last cid).state ≡ Dead
 
 -- a place that the command used is dead
 abbrev pub IsCut : List ChannelArrival → BaysView → Type 0
-IsCut came last = ((line_in_at last 0).state ≡ Dead) ⊎ IsOutputDead came last
+IsCut further last = ((line_in_at last 0).state ≡ Dead) ⊎ IsOutputDead further last
 
 -- To the client output of each channel the text of the packets that arrived on it was due; where none did it is as it
 -- was.
-pub record OutputsSent (came : List ChannelArrival) (first last : BaysView) : Type 0 where
-  pub sent : (cid : ℕ) → cid < CLIENTS → IsSent (client_out_at first cid) (hex_text (packets_on cid came))
+pub record OutputsSent (further : List ChannelArrival) (first last : BaysView) : Type 0 where
+  pub sent : (cid : ℕ) → cid < CLIENTS → IsSent (client_out_at first cid) (hex_text (packets_on cid further))
       (client_out_at last cid)
-  pub quiet : (cid : ℕ) → cid < CLIENTS → packets_on cid came ≡ [] → client_out_at last cid ≡ client_out_at first cid
+  pub quiet : (cid : ℕ) → cid < CLIENTS → packets_on cid further ≡ [] → client_out_at last cid ≡ client_out_at first cid
 
 -- the report was written whole, unless it failed
 abbrev pub written_by : Ended → Written
@@ -48,18 +48,18 @@ written_by Cut = written.Whole
 
 -- With these bytes of the line, and where these arrived on channels: what went to the client outputs and the report,
 -- how much was taken of the line, and how the command ended.
-pub record UnbundleOf (turns : ℕ) (given taken : List ℕ) (came : List ChannelArrival) (first last : BaysView)
+pub record UnbundleOf (turns : ℕ) (available read : List ℕ) (further : List ChannelArrival) (first last : BaysView)
     (was is : SinkView) (ended : Ended) : Type 0 where
-  pub outputs : OutputsSent came first last
-  pub report : SinkWrites (written_by ended) was (report_text came) is
-  pub took : length taken ≡ min (length given) (suc (line_taken plain_otu2 given turns 0))
-  pub cut : ended ≢ ReportFault → (ended ≡ Cut) ↔ IsCut came last
-  pub unfinished : ended ≢ ReportFault → (ended ≡ Unfinished) ↔ ((IsCut came last → ⊥) × HasMore turns given)
+  pub outputs : OutputsSent further first last
+  pub report : SinkWrites (written_by ended) was (report_text further) is
+  pub took : length read ≡ min (length available) (suc (line_taken plain_otu2 available turns 0))
+  pub cut : ended ≢ ReportFault → (ended ≡ Cut) ↔ IsCut further last
+  pub unfinished : ended ≢ ReportFault → (ended ≡ Unfinished) ↔ ((IsCut further last → ⊥) × HasMore turns available)
 
 -- These bytes were taken of the line. More may stand behind them; whatever they all turn out to be, this is left.
 pub record UnbundleRan (turns : ℕ) (first last : BaysView) (was is : SinkView) (ended : Ended) : Type 0 where
-  pub taken : List ℕ
+  pub read : List ℕ
   pub more : Bool
-  pub line : InputLeft (line_in_at first 0) (line_in_at last 0) taken more
-  pub left : (given : List ℕ) → MayHave more taken given
-      → UnbundleOf turns given taken (arrived_before given turns) first last was is ended
+  pub line : InputLeft (line_in_at first 0) (line_in_at last 0) read more
+  pub left : (available : List ℕ) → MayHave more read available
+      → UnbundleOf turns available read (arrived_before available turns) first last was is ended

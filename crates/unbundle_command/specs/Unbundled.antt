@@ -17,8 +17,8 @@ abbrev pub first_slot : Tributary
 first_slot = tributary_of (record { kind = Otu2; list = 1 ∷ [] }) 1
 
 -- what its sink emits in the turns before turn t
-abbrev pub emitted_before : (given : List ℕ) → (t : ℕ) → List ℕ
-emitted_before given t = flat_map (emitted_at first_slot given) (range_with_len 0 t)
+abbrev pub emitted_before : (available : List ℕ) → (t : ℕ) → List ℕ
+emitted_before available t = flat_map (emitted_at first_slot available) (range_with_len 0 t)
 
 -- what arrives on channels in the bytes of an ODU0: each run of payload bytes between breaks is a stream of GFP frames
 -- of its own
@@ -26,8 +26,8 @@ unfoldable pub client_arrivals : List ℕ → List ChannelArrival
 client_arrivals bytes = flat_map channel_arrivals (runs_of (arrivals bytes))
 
 -- what arrives on channels in the turns before turn t
-abbrev pub arrived_before : (given : List ℕ) → (t : ℕ) → List ChannelArrival
-arrived_before given t = client_arrivals (emitted_before given t)
+abbrev pub arrived_before : (available : List ℕ) → (t : ℕ) → List ChannelArrival
+arrived_before available t = client_arrivals (emitted_before available t)
 
 -- ---- the numbers
 
@@ -44,13 +44,13 @@ is_of_other (LossOn cid) = nat_le CLIENTS cid
 -- how many packets and how many losses arrive on a channel, and how many arrivals are of channels without a client
 -- output
 abbrev pub packet_count : (cid : ℕ) → List ChannelArrival → ℕ
-packet_count cid came = length (packets_on cid came)
+packet_count cid further = length (packets_on cid further)
 
 abbrev pub loss_count : (cid : ℕ) → List ChannelArrival → ℕ
-loss_count cid came = length (filter (is_loss_on cid) came)
+loss_count cid further = length (filter (is_loss_on cid) further)
 
 abbrev pub other_count : List ChannelArrival → ℕ
-other_count came = length (filter is_of_other came)
+other_count further = length (filter is_of_other further)
 
 -- ---- the report
 
@@ -65,7 +65,7 @@ channel_line cid packets losses = if nat_lt 0 packets || nat_lt 0 losses then ch
 
 -- the lines of the first channels, so many
 abbrev pub channel_lines : List ChannelArrival → (count : ℕ) → List ℕ
-channel_lines came count = flat_map (λ cid. channel_line cid (packet_count cid came) (loss_count cid came))
+channel_lines further count = flat_map (λ cid. channel_line cid (packet_count cid further) (loss_count cid further))
     (range_with_len 0 count)
 
 -- the line of the other channels
@@ -75,4 +75,4 @@ other_text count = line_of (codes "other " ∷ decimal count ∷ [])
 -- the report on what arrived: a line for each channel with a client output on which something did, and how much arrived
 -- on others
 unfoldable pub report_text : List ChannelArrival → List ℕ
-report_text came = channel_lines came CLIENTS ++ other_text (other_count came)
+report_text further = channel_lines further CLIENTS ++ other_text (other_count further)

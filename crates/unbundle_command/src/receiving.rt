@@ -24,9 +24,9 @@ pub(crate) fn take_all<I: Source, O: Sink>(
     outputs: &mut Outputs,
     bays: &mut Rack<I, O>,
 )
-    ensures holds { (first : BaysView) (taken : List ℕ)
-        → HoldsAfter first (bays_view I.Source O.Sink bays.old) taken (aligner_state aligner.old) reader.old outputs.old
-        → HoldsAfter first (bays_view I.Source O.Sink bays.new) (taken ++ bytes.now)
+    ensures holds { (first : BaysView) (read : List ℕ)
+        → HoldsAfter first (bays_view I.Source O.Sink bays.old) read (aligner_state aligner.old) reader.old outputs.old
+        → HoldsAfter first (bays_view I.Source O.Sink bays.new) (read ++ bytes.now)
         (aligner_state aligner.new) reader.new outputs.new }
     ensures alone { OnlyClientsOut (bays_view I.Source O.Sink bays.old) (bays_view I.Source O.Sink bays.new) }
 {
@@ -46,9 +46,9 @@ fn take_some<I: Source, O: Sink>(
 ) -> usize
     ensures within { result ≤ length bytes.now }
     ensures some { 1 ≤ length bytes.now → 1 ≤ result }
-    ensures holds { (first : BaysView) (taken : List ℕ)
-        → HoldsAfter first (bays_view I.Source O.Sink bays.old) taken (aligner_state aligner.old) reader.old outputs.old
-        → HoldsAfter first (bays_view I.Source O.Sink bays.new) (taken ++ take result bytes.now)
+    ensures holds { (first : BaysView) (read : List ℕ)
+        → HoldsAfter first (bays_view I.Source O.Sink bays.old) read (aligner_state aligner.old) reader.old outputs.old
+        → HoldsAfter first (bays_view I.Source O.Sink bays.new) (read ++ take result bytes.now)
         (aligner_state aligner.new) reader.new outputs.new }
     ensures alone { OnlyClientsOut (bays_view I.Source O.Sink bays.old) (bays_view I.Source O.Sink bays.new) }
 {
@@ -65,9 +65,10 @@ fn hand_on<I: Source, O: Sink>(
     outputs: &mut Outputs,
     bays: &mut Rack<I, O>,
 )
-    ensures read { (first : BaysView) (came : List Arrival)
-        → AllRead first (bays_view I.Source O.Sink bays.old) came reader.old outputs.old
-        → AllRead first (bays_view I.Source O.Sink bays.new) (came ++ news aligned frame.now) reader.new outputs.new }
+    ensures read { (first : BaysView) (further : List Arrival)
+        → AllRead first (bays_view I.Source O.Sink bays.old) further reader.old outputs.old
+        → AllRead first (bays_view I.Source O.Sink bays.new) (further ++ news aligned frame.now) reader.new
+        outputs.new }
     ensures alone { OnlyClientsOut (bays_view I.Source O.Sink bays.old) (bays_view I.Source O.Sink bays.new) }
 {
     match aligned {
@@ -84,10 +85,10 @@ fn read_frame<I: Source, O: Sink>(
     outputs: &mut Outputs,
     bays: &mut Rack<I, O>,
 )
-    ensures read { (first : BaysView) (earlier : List ChannelArrival) (taken : List ℕ)
-        → RunRead first (bays_view I.Source O.Sink bays.old) earlier taken reader.old outputs.old
+    ensures read { (first : BaysView) (earlier : List ChannelArrival) (read : List ℕ)
+        → RunRead first (bays_view I.Source O.Sink bays.old) earlier read reader.old outputs.old
         → RunRead first (bays_view I.Source O.Sink bays.new) earlier
-        (taken ++ payload_of frame.now) reader.new outputs.new }
+        (read ++ payload_of frame.now) reader.new outputs.new }
     ensures alone { OnlyClientsOut (bays_view I.Source O.Sink bays.old) (bays_view I.Source O.Sink bays.new) }
 {
     read_bytes(frame.payload_row(1), reader, outputs, bays);
@@ -103,9 +104,9 @@ fn read_bytes<I: Source, O: Sink>(
     outputs: &mut Outputs,
     bays: &mut Rack<I, O>,
 )
-    ensures read { (first : BaysView) (earlier : List ChannelArrival) (taken : List ℕ)
-        → RunRead first (bays_view I.Source O.Sink bays.old) earlier taken reader.old outputs.old
-        → RunRead first (bays_view I.Source O.Sink bays.new) earlier (taken ++ bytes.now) reader.new outputs.new }
+    ensures read { (first : BaysView) (earlier : List ChannelArrival) (read : List ℕ)
+        → RunRead first (bays_view I.Source O.Sink bays.old) earlier read reader.old outputs.old
+        → RunRead first (bays_view I.Source O.Sink bays.new) earlier (read ++ bytes.now) reader.new outputs.new }
     ensures alone { OnlyClientsOut (bays_view I.Source O.Sink bays.old) (bays_view I.Source O.Sink bays.new) }
 {
     let mut done = 0;
@@ -123,10 +124,10 @@ fn read_some<I: Source, O: Sink>(
 ) -> usize
     ensures within { result ≤ length bytes.now }
     ensures some { 1 ≤ length bytes.now → 1 ≤ result }
-    ensures read { (first : BaysView) (earlier : List ChannelArrival) (taken : List ℕ)
-        → RunRead first (bays_view I.Source O.Sink bays.old) earlier taken reader.old outputs.old
+    ensures read { (first : BaysView) (earlier : List ChannelArrival) (read : List ℕ)
+        → RunRead first (bays_view I.Source O.Sink bays.old) earlier read reader.old outputs.old
         → RunRead first (bays_view I.Source O.Sink bays.new) earlier
-        (taken ++ take result bytes.now) reader.new outputs.new }
+        (read ++ take result bytes.now) reader.new outputs.new }
     ensures alone { OnlyClientsOut (bays_view I.Source O.Sink bays.old) (bays_view I.Source O.Sink bays.new) }
 {
     match reader.take_some(bytes) {

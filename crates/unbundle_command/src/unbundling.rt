@@ -30,7 +30,7 @@ impl Unbundling {
     /// The parts before the first turn. Takes all memory that they will ever need; answers `Memory` where there is
     /// none.
     pub(crate) fn new(alloc: Global) -> Result<Unbundling, Memory>
-        ensures gone { IfOk result (λ parts. (first : BaysView) → TurnsGone first first 0 parts) }
+        ensures due { IfOk result (λ parts. (first : BaysView) → TurnsGone first first 0 parts) }
         ensures ready { IfOk result IsReady }
     {
         let tap = Tap::new(alloc, 1, &first_slot())?;
@@ -50,9 +50,9 @@ impl Unbundling {
     pub(crate) fn turn<I: Source, O: Sink>(&mut self, room: &mut Vec<u8>, bays: &mut Rack<I, O>)
         requires ready { IsReady self.old }
         requires room { vec_len room.old ≡ GROUPS + 1 }
-        ensures gone { (first : BaysView) (taken : List ℕ) (t : ℕ)
-            → Stands first (bays_view I.Source O.Sink bays.old) taken t self.old
-            → TurnGone first (bays_view I.Source O.Sink bays.new) taken t self.new }
+        ensures due { (first : BaysView) (read : List ℕ) (t : ℕ)
+            → Stands first (bays_view I.Source O.Sink bays.old) read t self.old
+            → TurnGone first (bays_view I.Source O.Sink bays.new) read t self.new }
         ensures ready { IsReady self.new }
         ensures room_stays { vec_len room.new ≡ vec_len room.old }
         ensures alone { OnlyUnbundled (bays_view I.Source O.Sink bays.old) (bays_view I.Source O.Sink bays.new) }

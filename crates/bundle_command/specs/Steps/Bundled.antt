@@ -18,10 +18,10 @@ use Rattle.bundle_command.specs.declared.weaving.Weaving.{Weaving}
 
 -- so many turns went by
 pub record TurnsGone (clients : List ℕ) (first now : BaysView) (t : ℕ) (parts : Bundling) : Type 0 where
-  pub gone : List ℕ
-  pub framing : FramesStand clients first now gone parts.framing
-  pub size : length gone ≡ NOMINAL * t
-  pub fed : FeedStands first_slot (line_out_at first 0) (line_out_at now 0) (parts_of gone t) parts.feed
+  pub due : List ℕ
+  pub framing : FramesStand clients first now due parts.framing
+  pub size : length due ≡ NOMINAL * t
+  pub fed : FeedStands first_slot (line_out_at first 0) (line_out_at now 0) (parts_of due t) parts.feed
   pub alone : OnlyBundled clients first now
 
 -- it is so of some clients

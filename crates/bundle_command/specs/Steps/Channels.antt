@@ -53,38 +53,38 @@ IsBadLine (line.Bad n) = Unit {0}
 IsBadLine line.Lost = ⊥
 
 -- By how a channel stands: what came of its text beyond the packets that it gave, and the last answer of its lines.
-abbrev pub StandsSo : Standing → (given beyond : List (List ℕ)) → Line → Type 0
-StandsSo Fresh given beyond answer = (given ≡ []) × (beyond ≡ []) × (answer ≡ line.Packet)
-StandsSo Going given beyond answer = (beyond ≡ []) × (answer ≡ line.Packet)
-StandsSo Ended given beyond answer = (beyond ≡ []) × (answer ≡ line.End)
-StandsSo Bad given beyond answer = ((beyond ≡ []) × IsBadLine answer)
+abbrev pub StandsSo : Standing → (offered beyond : List (List ℕ)) → Line → Type 0
+StandsSo Fresh offered beyond answer = (offered ≡ []) × (beyond ≡ []) × (answer ≡ line.Packet)
+StandsSo Going offered beyond answer = (beyond ≡ []) × (answer ≡ line.Packet)
+StandsSo Ended offered beyond answer = (beyond ≡ []) × (answer ≡ line.End)
+StandsSo Bad offered beyond answer = ((beyond ≡ []) × IsBadLine answer)
     ⊎ ((packet : List ℕ) × (beyond ≡ packet ∷ []) × (is_short packet ≡ false) × (answer ≡ line.Packet))
-StandsSo Lost given beyond answer = (beyond ≡ []) × (answer ≡ line.Lost)
-StandsSo More given beyond answer = (packet : List ℕ) × (beyond ≡ packet ∷ []) × (answer ≡ line.Packet)
+StandsSo Lost offered beyond answer = (beyond ≡ []) × (answer ≡ line.Lost)
+StandsSo More offered beyond answer = (packet : List ℕ) × (beyond ≡ packet ∷ []) × (answer ≡ line.Packet)
 
 -- `first` and `now` are views of its client's place, between which these bytes were taken; it gave these packets.
-pub record ChannelStands (first now : InView) (taken : List ℕ) (given : List (List ℕ))
+pub record ChannelStands (first now : InView) (read : List ℕ) (offered : List (List ℕ))
     (channel : Channel) : Type 0 where
   pub beyond : List (List ℕ)
-  pub text : LinesStand first now taken (given ++ beyond) (lines_view channel.lines)
-  pub so : StandsSo channel.standing given beyond (lines_view channel.lines).answer
-  pub short : list_all is_short given ≡ true
-  pub count : channel.packets ≡ saturated (length given)
+  pub text : LinesStand first now read (offered ++ beyond) (lines_view channel.lines)
+  pub so : StandsSo channel.standing offered beyond (lines_view channel.lines).answer
+  pub short : list_all is_short offered ≡ true
+  pub count : channel.packets ≡ saturated (length offered)
 
 -- an input that a place may turn out to have, of which these bytes were taken, as its lines tell it
-pub record MayShow (view : LinesView) (taken : List ℕ) (input : ClientInput) : Type 0 where
+pub record MayShow (view : LinesView) (read : List ℕ) (input : ClientInput) : Type 0 where
   pub died : Bool
   pub text : List ℕ
-  pub may : MayBe view taken text
+  pub may : MayBe view read text
   pub die : MayDie view.answer died
   pub is : input ≡ input_of died text
 
 -- after an answer more bytes were taken, and an input that may be from then on might be before
-pub record Answered (first now : InView) (taken : List ℕ) (given : List (List ℕ)) (old new : Channel) : Type 0 where
-  pub came : List ℕ
-  pub stands : ChannelStands first now (taken ++ came) given new
-  pub earlier : (input : ClientInput) → MayShow (lines_view new.lines) (taken ++ came) input
-      → MayShow (lines_view old.lines) taken input
+pub record Answered (first now : InView) (read : List ℕ) (offered : List (List ℕ)) (old new : Channel) : Type 0 where
+  pub further : List ℕ
+  pub stands : ChannelStands first now (read ++ further) offered new
+  pub earlier : (input : ClientInput) → MayShow (lines_view new.lines) (read ++ further) input
+      → MayShow (lines_view old.lines) read input
 
 unfoldable pub woven_bytes : (cids : List ℕ) → List WovenFrame → ℕ
 woven_bytes cids [] = 0
@@ -116,14 +116,14 @@ abbrev pub HasChannel : List Channel → (c : ℕ) → Channel → Type 0
 HasChannel channels c channel = slice_get channels c ≡ Some channel
 
 -- an input of each that may be
-abbrev pub MayShowAll : List Channel → (taken : ℕ → List ℕ) → (inputs : ℕ → ClientInput) → Type 0
-MayShowAll channels taken inputs = (c : ℕ) (channel : Channel) → HasChannel channels c channel
-    → MayShow (lines_view channel.lines) (taken c) (inputs c)
+abbrev pub MayShowAll : List Channel → (read : ℕ → List ℕ) → (inputs : ℕ → ClientInput) → Type 0
+MayShowAll channels read inputs = (c : ℕ) (channel : Channel) → HasChannel channels c channel
+    → MayShow (lines_view channel.lines) (read c) (inputs c)
 
 -- one channel in its stream
-pub record ChannelAt (clients : List ℕ) (first now : BaysView) (taken : List ℕ) (at : Woven) (end c : ℕ)
+pub record ChannelAt (clients : List ℕ) (first now : BaysView) (read : List ℕ) (at : Woven) (end c : ℕ)
     (channel : Channel) : Type 0 where
-  pub stands : ChannelStands (place_of clients first c) (place_of clients now c) taken
+  pub stands : ChannelStands (place_of clients first c) (place_of clients now c) read
       (packets_given c at.frames) channel
   pub client : channel.client ≡ slice_index clients c
   pub unasked : channel.standing ≡ Fresh → IsUnasked clients at end c
@@ -135,20 +135,20 @@ pub record OnlyClients (clients : List ℕ) (first now : BaysView) : Type 0 wher
   pub client_in : (n : ℕ) → (Contains clients n → ⊥) → client_in_at now n ≡ client_in_at first n
 
 -- Since the start these bytes were given of the channels' stream, which is so far.
-pub record WeavingHas (clients : List ℕ) (first now : BaysView) (taken : ℕ → List ℕ) (at : Woven) (given : List ℕ)
+pub record WeavingHas (clients : List ℕ) (first now : BaysView) (read : ℕ → List ℕ) (at : Woven) (emitted : List ℕ)
     (weaving : Weaving) : Type 0 where
   pub list : IsClientList clients
-  pub woven : HasWoven clients at given weaving.maker
+  pub woven : HasWoven clients at emitted weaving.maker
   pub going : IsGoing (length clients) at
   pub many : length weaving.channels.items ≡ length clients
   pub end : ℕ
   pub ends : PacketsEnd clients at.frames end
   pub each : (c : ℕ) (channel : Channel) → HasChannel weaving.channels.items c channel
-      → ChannelAt clients first now (taken c) at end c channel
-  pub weave : (inputs : ℕ → ClientInput) → MayShowAll weaving.channels.items taken inputs
+      → ChannelAt clients first now (read c) at end c channel
+  pub weave : (inputs : ℕ → ClientInput) → MayShowAll weaving.channels.items read inputs
       → IsWeave (texts_of (length clients) inputs) at
   pub only : OnlyClients clients first now
-  pub given_is : weaving.given ≡ saturated (length given)
+  pub given_is : weaving.emitted ≡ saturated (length emitted)
   pub end_is : weaving.end ≡ saturated end
 
 -- no channel was settled
@@ -160,36 +160,36 @@ abbrev pub IsBegun : (cids : List ℕ) → Woven → (most : ℕ) → Type 0
 IsBegun cids at most = woven_bytes cids (take (length at.frames - 1) at.frames) ≤ most
 
 -- where the first byte of the last frame is given
-pub record WeavingStands (clients : List ℕ) (first now : BaysView) (given : List ℕ) (weaving : Weaving) : Type 0 where
-  pub taken : ℕ → List ℕ
+pub record WeavingStands (clients : List ℕ) (first now : BaysView) (emitted : List ℕ) (weaving : Weaving) : Type 0 where
+  pub read : ℕ → List ℕ
   pub at : Woven
-  pub has : WeavingHas clients first now taken at given weaving
+  pub has : WeavingHas clients first now read at emitted weaving
   pub unsettled : AreOpen weaving.channels.items
-  pub begun : IsBegun clients at (length given - 1)
+  pub begun : IsBegun clients at (length emitted - 1)
   pub told : at.others ≡ 0
 
 -- where it is that, or the next; while a frame is in hand no channel was asked for the next
-pub record WeavingReady (clients : List ℕ) (first now : BaysView) (given : List ℕ) (weaving : Weaving) : Type 0 where
-  pub taken : ℕ → List ℕ
+pub record WeavingReady (clients : List ℕ) (first now : BaysView) (emitted : List ℕ) (weaving : Weaving) : Type 0 where
+  pub read : ℕ → List ℕ
   pub at : Woven
-  pub has : WeavingHas clients first now taken at given weaving
+  pub has : WeavingHas clients first now read at emitted weaving
   pub unsettled : AreOpen weaving.channels.items
-  pub begun : IsBegun clients at (length given)
+  pub begun : IsBegun clients at (length emitted)
   pub told : weaving.maker.maker.hand ≢ [] → at.others ≡ 0
 
 -- it is so of some channels
 pub record IsReady (now : BaysView) (weaving : Weaving) : Type 0 where
   pub clients : List ℕ
   pub first : BaysView
-  pub given : List ℕ
-  pub ready : WeavingReady clients first now given weaving
+  pub emitted : List ℕ
+  pub ready : WeavingReady clients first now emitted weaving
 
 -- and so is this
 pub record IsStanding (now : BaysView) (weaving : Weaving) : Type 0 where
   pub clients : List ℕ
   pub first : BaysView
-  pub given : List ℕ
-  pub stands : WeavingStands clients first now given weaving
+  pub emitted : List ℕ
+  pub stands : WeavingStands clients first now emitted weaving
 
 -- how many channels are left to be asked for the next frame, and one more; none where a frame is in hand
 abbrev pub left_to_ask : (hand : List ℕ) → (count asked : ℕ) → ℕ
@@ -211,7 +211,7 @@ pub record AreOver (channels : List Channel) : Type 0 where
 
 -- this is the channel that is asked
 abbrev pub IsAsked : (index : ℕ) → WeaverState → Type 0
-IsAsked index maker = (cids : List ℕ) (at : Woven) (given : List ℕ) → HasWoven cids at given maker
+IsAsked index maker = (cids : List ℕ) (at : Woven) (emitted : List ℕ) → HasWoven cids at emitted maker
     → index ≡ channel_at (length cids) at
 
 -- the channels are asked once round: where none is in hand one more was asked
@@ -226,18 +226,18 @@ frame_of Lost c packet frames = loss_due c frames
 frame_of other c packet frames = None
 
 -- where the last packet's frame ends, by the same
-abbrev pub end_after : Standing → (given size end : ℕ) → ℕ
-end_after Going given size end = saturated (given + (size + 16))
-end_after other given size end = end
+abbrev pub end_after : Standing → (emitted size end : ℕ) → ℕ
+end_after Going emitted size end = saturated (emitted + (size + 16))
+end_after other emitted size end = end
 
 -- the maker was told of it
 pub record IsTold (answer : Standing) (packet : List ℕ) (old new : Weaving) : Type 0 where
-  pub woven : (cids : List ℕ) (at : Woven) (given : List ℕ) → HasWoven cids at given old.maker
-      → HasWoven cids (woven_on (length cids) at (frame_of answer (channel_at (length cids) at) packet at.frames)) given
-      new.maker
+  pub woven : (cids : List ℕ) (at : Woven) (emitted : List ℕ) → HasWoven cids at emitted old.maker
+      → HasWoven cids (woven_on (length cids) at (frame_of answer (channel_at (length cids) at) packet at.frames))
+      emitted new.maker
   pub channels : new.channels ≡ old.channels
-  pub given : new.given ≡ old.given
-  pub end : new.end ≡ end_after answer old.given (length packet) old.end
+  pub emitted : new.emitted ≡ old.emitted
+  pub end : new.end ≡ end_after answer old.emitted (length packet) old.end
 
 -- A channel was asked; all others, and the places of all other clients, are as they were.
 pub record ChannelAsked (index : ℕ) (was : BaysView) (old : List Channel) (is : BaysView) (new : List Channel)
@@ -246,10 +246,10 @@ pub record ChannelAsked (index : ℕ) (was : BaysView) (old : List Channel) (is 
   pub known : HasChannel old index channel
   pub next : Channel
   pub channels : new ≡ set old index next
-  pub answered : (first : InView) (taken : List ℕ) (given : List (List ℕ))
-      → ChannelStands first (client_in_at was channel.client) taken given channel
-      → Answered first (client_in_at is channel.client) taken
-      (given ++ news answer (lines_view next.lines).packet) channel next
+  pub answered : (first : InView) (read : List ℕ) (offered : List (List ℕ))
+      → ChannelStands first (client_in_at was channel.client) read offered channel
+      → Answered first (client_in_at is channel.client) read
+      (offered ++ news answer (lines_view next.lines).packet) channel next
   pub standing : next.standing ≡ answer
   pub closed : (answer ≢ Fresh) × (answer ≢ More)
   pub packet : answer ≡ Going → (1 ≤ length (lines_view next.lines).packet)

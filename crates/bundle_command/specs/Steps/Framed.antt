@@ -19,22 +19,22 @@ abbrev pub left_of : Framing → List ℕ
 left_of framing = drop framing.at framing.frame
 
 -- Frames were made of the channels' stream, of which these bytes are gone.
-pub record FramesHave (clients : List ℕ) (first now : BaysView) (gone : List ℕ) (framing : Framing) : Type 0 where
-  pub given : List ℕ
+pub record FramesHave (clients : List ℕ) (first now : BaysView) (due : List ℕ) (framing : Framing) : Type 0 where
+  pub emitted : List ℕ
   pub count : ℕ
-  pub weaving : WeavingStands clients first now given framing.weaving
-  pub made : HasMadeFrames [] count given framing.overhead
-  pub frames : gone ++ left_of framing ≡ concat (client_frames [] count given)
+  pub weaving : WeavingStands clients first now emitted framing.weaving
+  pub made : HasMadeFrames [] count emitted framing.overhead
+  pub frames : due ++ left_of framing ≡ concat (client_frames [] count emitted)
   pub trace : framing.trace ≡ []
 
 -- and some bytes of the last
-pub record FramesStand (clients : List ℕ) (first now : BaysView) (gone : List ℕ) (framing : Framing) : Type 0 where
-  pub has : FramesHave clients first now gone framing
+pub record FramesStand (clients : List ℕ) (first now : BaysView) (due : List ℕ) (framing : Framing) : Type 0 where
+  pub has : FramesHave clients first now due framing
   pub part : length (left_of framing) < CLIENT_FRAME_BYTES
 
 -- it is so of some channels
 pub record AreReady (now : BaysView) (framing : Framing) : Type 0 where
   pub clients : List ℕ
   pub first : BaysView
-  pub gone : List ℕ
-  pub ready : FramesHave clients first now gone framing
+  pub due : List ℕ
+  pub ready : FramesHave clients first now due framing

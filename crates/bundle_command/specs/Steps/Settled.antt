@@ -12,14 +12,14 @@ use Rattle.otn_ports.specs.declared.ended.Ended.{Ended}
 use Rattle.bundle_command.specs.declared.weaving.Weaving.{Weaving}
 
 -- The first channels, so many, were asked once more, where a packet was their last answer.
-pub record IsSettled (count : ℕ) (clients : List ℕ) (first now : BaysView) (given : List ℕ)
+pub record IsSettled (count : ℕ) (clients : List ℕ) (first now : BaysView) (emitted : List ℕ)
     (weaving : Weaving) : Type 0 where
-  pub taken : ℕ → List ℕ
+  pub read : ℕ → List ℕ
   pub at : Woven
-  pub has : WeavingHas clients first now taken at given weaving
+  pub has : WeavingHas clients first now read at emitted weaving
   pub over : (c : ℕ) (channel : Channel) → HasChannel weaving.channels.items c channel → c < count
       → channel.standing ≢ standing.Going
-  pub begun : IsBegun clients at (length given - 1)
+  pub begun : IsBegun clients at (length emitted - 1)
   pub told : at.others ≡ 0
 
 -- one channel was
@@ -29,9 +29,9 @@ pub record ChannelSettled (index : ℕ) (was : BaysView) (old : List Channel) (i
   pub known : HasChannel old index channel
   pub next : Channel
   pub channels : new ≡ set old index next
-  pub settled : (first : InView) (taken : List ℕ) (given : List (List ℕ))
-      → ChannelStands first (client_in_at was channel.client) taken given channel
-      → Answered first (client_in_at is channel.client) taken given channel next
+  pub settled : (first : InView) (read : List ℕ) (offered : List (List ℕ))
+      → ChannelStands first (client_in_at was channel.client) read offered channel
+      → Answered first (client_in_at is channel.client) read offered channel next
   pub over : next.standing ≢ standing.Going
   pub fresh : next.standing ≡ standing.Fresh → channel.standing ≡ standing.Fresh
   pub stays : channel.standing ≡ standing.Fresh → next.standing ≡ standing.Fresh

@@ -15,7 +15,7 @@ use Rattle.cross_matrix.specs.Receiving.{last_run, HeldView, NoneHeld}
 -- the text of these packets was due to a place, and so many of them count
 pub record LinesSent (first now : OutView) (packets : List (List ℕ)) (count : ℕ) : Type 0 where
   pub sent : IsSent first (hex_text packets) now
-  pub counted : count ≡ saturated (counted_packets first.state packets sent.went)
+  pub counted : count ≡ saturated (counted_packets first.state packets sent.written)
 
 -- and no packet counts
 pub record IsNew (held : HeldView) : Type 0 where

@@ -28,23 +28,23 @@ pub record TurnRun (own : Tributary) (first now : InView) (read : List ℕ) (t :
   pub wrote : TurnWrote answer later.line.ended old new emitted
 
 -- how the command ends after the last turn: by the rest where the end was seen, else by one byte more
-abbrev pub AnswerEnds : Ended → (line : LineView) → (came : List ℕ) → (was now : InView) → Type 0
-AnswerEnds Done line came was now =
-    (now.state ≢ Dead) × (came ≡ []) × (((line.reader.ending ≡ Seen) × (line.reader.rest ≡ 0) × (now ≡ was))
+abbrev pub AnswerEnds : Ended → (line : LineView) → (further : List ℕ) → (was now : InView) → Type 0
+AnswerEnds Done line further was now =
+    (now.state ≢ Dead) × (further ≡ []) × (((line.reader.ending ≡ Seen) × (line.reader.rest ≡ 0) × (now ≡ was))
     ⊎ ((line.reader.ending ≢ Seen) × HasEnded now.left now.ended))
-AnswerEnds Unfinished line came was now =
-    (now.state ≢ Dead) × (((line.reader.ending ≡ Seen) × (0 < line.reader.rest) × (came ≡ []) × (now ≡ was))
-    ⊎ ((line.reader.ending ≢ Seen) × (length came ≡ 1)))
-AnswerEnds Cut line came was now = (now.state ≡ Dead) × (came ≡ [])
+AnswerEnds Unfinished line further was now =
+    (now.state ≢ Dead) × (((line.reader.ending ≡ Seen) × (0 < line.reader.rest) × (further ≡ []) × (now ≡ was))
+    ⊎ ((line.reader.ending ≢ Seen) × (length further ≡ 1)))
+AnswerEnds Cut line further was now = (now.state ≡ Dead) × (further ≡ [])
     × ((now ≡ was) ⊎ ((line.reader.ending ≢ Seen) × (now.ended ≡ was.ended)))
-AnswerEnds ReportFault line came was now = ⊥
-AnswerEnds Memory line came was now = ⊥
+AnswerEnds ReportFault line further was now = ⊥
+AnswerEnds Memory line further was now = ⊥
 
 -- how the command ends: the bytes that came after the last turn, one at most, and the answer
 pub record AnswerRun (line : LineView) (was now : InView) (ended : Ended) : Type 0 where
-  pub came : List ℕ
-  pub gave : Gave was came now
-  pub ends : AnswerEnds ended line came was now
+  pub further : List ℕ
+  pub gave : Gave was further now
+  pub ends : AnswerEnds ended line further was now
 
 -- how the write of a turn ends the command
 abbrev pub fault_of : After → Option Ended

@@ -30,9 +30,9 @@ StepEnds (Some Memory) slot read first now old new = ⊥
 
 -- a step: a frame was asked for, and where it came whole its slot's bytes were written
 pub record SlotStep (slot : ℕ) (first now : InView) (old new : Option (List ℕ)) (answer : Option Ended) : Type 0 where
-  pub taken : List ℕ
-  pub gave : Gave first taken now
-  pub ends : StepEnds answer slot taken first now old new
+  pub read : List ℕ
+  pub gave : Gave first read now
+  pub ends : StepEnds answer slot read first now old new
 
 -- a write of a slot's bytes of a frame
 abbrev pub SlotWritten : Written → (slot : ℕ) → List ℕ → (old new : Option (List ℕ)) → Type 0

@@ -19,10 +19,10 @@ pub record Keeps (old new : LineView) : Type 0 where
   pub lost : new.lost ≡ old.lost
 
 -- a frame was taken into the alignment, and the line is locked, or none was taken, and the alignment stays
-pub record TakesMember (taken : Bool) (old new : LineView) : Type 0 where
-  pub aligned : taken ≡ true → IsSome new.alignment
-  pub stays : taken ≡ false → new.alignment ≡ old.alignment
-  pub count : frames_taken new ≡ frames_taken old + one_if taken
+pub record TakesMember (read : Bool) (old new : LineView) : Type 0 where
+  pub aligned : read ≡ true → IsSome new.alignment
+  pub stays : read ≡ false → new.alignment ≡ old.alignment
+  pub count : frames_taken new ≡ frames_taken old + one_if read
 
 -- so many more lead-in frames were passed over
 abbrev pub PassesOver : LineView → ℕ → LineView → Type 0
@@ -45,15 +45,15 @@ pub record FoundNone (available : List ℕ) (n u w : ℕ) (old new : LineView) :
 
 -- a piece of a locked turn: the next frame is taken, or the line ends where it is not whole
 pub record TakesNext (result : Bool) (old : LineView) (was : InView) (new : LineView) (is : InView) : Type 0 where
-  pub came : List ℕ
-  pub step : ReadStep old.reader was came new.reader is
+  pub further : List ℕ
+  pub step : ReadStep old.reader was further new.reader is
   pub keeps : Keeps old new
   pub member : TakesMember result old new
   pub lead_in : new.lead_in ≡ old.lead_in
   pub over : result ≡ false → new.ended ≡ true
-  pub frame : result ≡ true → OnAnyLine old.reader new.reader came
+  pub frame : result ≡ true → OnAnyLine old.reader new.reader further
       (λ available n u w. TookFrame available n u (max w (u + 1)) old new)
-  pub none : result ≡ false → OnAnyLine old.reader new.reader came
+  pub none : result ≡ false → OnAnyLine old.reader new.reader further
       (λ available n u w. FoundNone available n u (max w (u + 1)) old new)
 
 -- the line is locked on the multiframe that begins with frame u
@@ -86,18 +86,18 @@ is_locked Ends = false
 -- is not whole
 pub record Tries (size : ℕ) (tried : Tried) (old : LineView) (was : InView) (new : LineView)
     (is : InView) : Type 0 where
-  pub came : List ℕ
-  pub step : ReadStep old.reader was came new.reader is
+  pub further : List ℕ
+  pub step : ReadStep old.reader was further new.reader is
   pub keeps : Keeps old new
   pub member : TakesMember (is_locked tried) old new
   pub passes_over : PassesOver old (one_if (is_passed tried)) new
   pub passed : tried ≡ Passes → (new.alignment ≡ old.alignment) × (new.ended ≡ old.ended)
-  pub locks : tried ≡ Locks → OnAnyLine old.reader new.reader came
+  pub locks : tried ≡ Locks → OnAnyLine old.reader new.reader further
       (λ available n u w. LockedAt size available n u (max w (u + 1 + 1)) old new)
-  pub passes : tried ≡ Passes → OnAnyLine old.reader new.reader came
+  pub passes : tried ≡ Passes → OnAnyLine old.reader new.reader further
       (λ available n u w. PassedBy size available n u
       (max w (u + 1 + one_if (looked_ahead size (mfas_of available) u))) new.reader)
-  pub ends : tried ≡ Ends → OnAnyLine old.reader new.reader came
+  pub ends : tried ≡ Ends → OnAnyLine old.reader new.reader further
       (λ available n u w. FoundNone available n u (max w (u + 1)) old new)
 
 -- a hunt from frame i on has locked at the least of the frames of a multiframe at which a multiframe may begin
@@ -119,14 +119,14 @@ pub record HuntFailed (size : ℕ) (available : List ℕ) (n i w : ℕ) (old new
 -- multiframe has
 pub record Hunts (size : ℕ) (result : Bool) (old : LineView) (was : InView) (new : LineView)
     (is : InView) : Type 0 where
-  pub came : List ℕ
-  pub step : ReadStep old.reader was came new.reader is
+  pub further : List ℕ
+  pub step : ReadStep old.reader was further new.reader is
   pub keeps : Keeps old new
   pub member : TakesMember result old new
-  pub locks : result ≡ true → OnAnyLine old.reader new.reader came
+  pub locks : result ≡ true → OnAnyLine old.reader new.reader further
       (λ available n i w. (m : ℕ) × HuntLocked size available n i w m old new)
   pub fails : result ≡ false
-      → OnAnyLine old.reader new.reader came (λ available n i w. HuntFailed size available n i w old new)
+      → OnAnyLine old.reader new.reader further (λ available n i w. HuntFailed size available n i w old new)
 
 -- nothing was read
 pub record Waits (result : Bool) (old : LineView) (was : InView) (new : LineView) (is : InView) : Type 0 where

@@ -5,10 +5,10 @@ use Rattle.otn_ports.specs.Views.{Empty, Live, Dead, OutView}
 
 -- a frame was written to a place, and counts or does not
 pub record Writes (counts : Bool) (old : OutView) (frame : List ℕ) (new : OutView) : Type 0 where
-  pub went : List ℕ
-  pub gained : Gained old went new
-  pub whole : old.state ≡ Live → new.state ≡ Live → (counts ≡ true) × (went ≡ frame)
+  pub written : List ℕ
+  pub gained : Gained old written new
+  pub whole : old.state ≡ Live → new.state ≡ Live → (counts ≡ true) × (written ≡ frame)
   pub part : old.state ≡ Live → new.state ≢ Live
-      → (counts ≡ false) × ((n : ℕ) × (n < length frame) × (went ≡ take n frame))
+      → (counts ≡ false) × ((n : ℕ) × (n < length frame) × (written ≡ take n frame))
   pub empty : old.state ≡ Empty → counts ≡ true
   pub dead : old.state ≡ Dead → counts ≡ false

@@ -19,19 +19,20 @@ use Rattle.line_side.specs.Reader.{ReaderView, HasRead, EndedAs}
 
 -- What a move of a reader comes to, whatever line it may be on and however far it has read. `available` are all bytes
 -- of the line; of them n are read after the move, in which these came; u frames were used before it, and w were wanted.
-abbrev pub OnAnyLine : (old new : ReaderView) → (came : List ℕ) → ((available : List ℕ) → (n u w : ℕ) → Type 0) → Type 0
-OnAnyLine old new came Comes = (available read : List ℕ) (u w : ℕ)
-    → MayBe new.scrambled new.ending (read ++ came) available
+abbrev pub OnAnyLine : (old new : ReaderView) → (further : List ℕ)
+    → ((available : List ℕ) → (n u w : ℕ) → Type 0) → Type 0
+OnAnyLine old new further Comes = (available read : List ℕ) (u w : ℕ)
+    → MayBe new.scrambled new.ending (read ++ further) available
     → HasRead available (length read) u w old
-    → Comes available (length (read ++ came)) u w
+    → Comes available (length (read ++ further)) u w
 
 -- what a read of a frame says: a whole frame came, which is read through the mask, or the place gives no more
 pub record FrameRead (scrambled : Bool) (reading : Reading) (was : InView) (frame : List ℕ) (is : InView) : Type 0 where
-  pub came : List ℕ
-  pub gave : Gave was came is
-  pub whole : reading ≡ Full → (frame ≡ through_mask scrambled came) × (length came ≡ LINE_FRAME_BYTES)
-  pub short : reading ≢ Full → (length came < LINE_FRAME_BYTES) × (is.state ≡ Live → HasEnded is.left is.ended)
-  pub end : (k : ℕ) → reading ≡ End k → (k ≡ length came) × (is.state ≢ Dead)
+  pub further : List ℕ
+  pub gave : Gave was further is
+  pub whole : reading ≡ Full → (frame ≡ through_mask scrambled further) × (length further ≡ LINE_FRAME_BYTES)
+  pub short : reading ≢ Full → (length further < LINE_FRAME_BYTES) × (is.state ≡ Live → HasEnded is.left is.ended)
+  pub end : (k : ℕ) → reading ≡ End k → (k ≡ length further) × (is.state ≢ Dead)
   pub lost : reading ≡ Lost → is.state ≡ Dead
   pub unended : ((k : ℕ) → reading ≢ End k) → is.ended ≡ was.ended
 
@@ -75,10 +76,10 @@ AsksNoMore old was new is = old ≢ Open → (is ≡ was) × (new ≢ Open)
 -- A step of a reader at the place of its line, in which these bytes came. Once the bytes have ended none come; a live
 -- place has ended with them, and how they ended goes on to agree with the place. While the end is not seen, the place
 -- answers none.
-pub record ReadStep (old : ReaderView) (was : InView) (came : List ℕ) (new : ReaderView) (is : InView) : Type 0 where
+pub record ReadStep (old : ReaderView) (was : InView) (further : List ℕ) (new : ReaderView) (is : InView) : Type 0 where
   pub scrambled : new.scrambled ≡ old.scrambled
-  pub gave : Gave was came is
-  pub quiet : old.ending ≢ Open → (came ≡ []) × (new.ending ≢ Open)
+  pub gave : Gave was further is
+  pub quiet : old.ending ≢ Open → (further ≡ []) × (new.ending ≢ Open)
   pub over : (old.ending ≢ Open → was.state ≡ Live → HasEnded was.left was.ended) → new.ending ≢ Open → is.state ≡ Live
       → HasEnded is.left is.ended
   pub ended : EndedAs old.ending was → EndedAs new.ending is
@@ -92,10 +93,10 @@ pub record Advanced (available : List ℕ) (n u w : ℕ) (result : Bool) (r : Re
 
 -- the reader went on to the next frame, which it wanted
 pub record Advances (result : Bool) (old : ReaderView) (was : InView) (new : ReaderView) (is : InView) : Type 0 where
-  pub came : List ℕ
-  pub step : ReadStep old was came new is
+  pub further : List ℕ
+  pub step : ReadStep old was further new is
   pub alone : new.ahead ≡ None
-  pub line : OnAnyLine old new came (λ available n u w. Advanced available n u (max w (u + 1)) result new)
+  pub line : OnAnyLine old new further (λ available n u w. Advanced available n u (max w (u + 1)) result new)
 
 -- the frame after those that are used was looked at, or there is none
 pub record LookedAhead (available : List ℕ) (n u w : ℕ) (result : Bool) (r : ReaderView) : Type 0 where
@@ -105,10 +106,10 @@ pub record LookedAhead (available : List ℕ) (n u w : ℕ) (result : Bool) (r :
 
 -- the reader looked ahead at the next frame, which it wanted
 pub record LooksAhead (result : Bool) (old : ReaderView) (was : InView) (new : ReaderView) (is : InView) : Type 0 where
-  pub came : List ℕ
-  pub step : ReadStep old was came new is
+  pub further : List ℕ
+  pub step : ReadStep old was further new is
   pub hand : new.hand ≡ old.hand
-  pub line : OnAnyLine old new came (λ available n u w. LookedAhead available n u (max w (u + 1)) result new)
+  pub line : OnAnyLine old new further (λ available n u w. LookedAhead available n u (max w (u + 1)) result new)
 
 -- whether a multiframe may begin with the frame in hand, the last one that is used: by it and the next frame
 pub record Began (size : ℕ) (available : List ℕ) (n u w : ℕ) (result : Bool) (r : ReaderView) : Type 0 where
@@ -118,8 +119,8 @@ pub record Began (size : ℕ) (available : List ℕ) (n u w : ℕ) (result : Boo
 -- the reader has the last used frame in hand, and tells whether a multiframe may begin with it
 pub record Begins (size : ℕ) (result : Bool) (old : ReaderView) (was : InView) (new : ReaderView)
     (is : InView) : Type 0 where
-  pub came : List ℕ
-  pub step : ReadStep old was came new is
+  pub further : List ℕ
+  pub step : ReadStep old was further new is
   pub hand : new.hand ≡ old.hand
-  pub line : OnAnyLine old new came (λ available n used w. (u : ℕ) → used ≡ u + 1 → old.hand ≡ frame_at available u
+  pub line : OnAnyLine old new further (λ available n used w. (u : ℕ) → used ≡ u + 1 → old.hand ≡ frame_at available u
       → Began size available n u w result new)

@@ -16,6 +16,6 @@ ByteEnds Memory read first now = ⊥
 
 -- a line that was asked for one byte more
 pub record ByteRun (first now : InView) (ended : Ended) : Type 0 where
-  pub taken : List ℕ
-  pub gave : Gave first taken now
-  pub ends : ByteEnds ended taken first now
+  pub read : List ℕ
+  pub gave : Gave first read now
+  pub ends : ByteEnds ended read first now

@@ -44,22 +44,22 @@ pub record TurnRun (form : LineForm) (first now : InView) (read : List ℕ) (t :
   pub wrote : TurnWrote answer seen.ended old new (lines_of t seen msi news)
 
 -- how a view ends after its last turn: by the rest where the end was seen, else by one byte more, unless a write failed
-abbrev pub AnswerEnds : Ended → (line : LineView) → (came : List ℕ) → (was now : InView) → Type 0
-AnswerEnds Done line came was now =
-    (now.state ≢ Dead) × (came ≡ []) × (((line.reader.ending ≡ Seen) × (line.reader.rest ≡ 0) × (now ≡ was))
+abbrev pub AnswerEnds : Ended → (line : LineView) → (further : List ℕ) → (was now : InView) → Type 0
+AnswerEnds Done line further was now =
+    (now.state ≢ Dead) × (further ≡ []) × (((line.reader.ending ≡ Seen) × (line.reader.rest ≡ 0) × (now ≡ was))
     ⊎ ((line.reader.ending ≢ Seen) × HasEnded now.left now.ended))
-AnswerEnds Unfinished line came was now =
-    (now.state ≢ Dead) × (((line.reader.ending ≡ Seen) × (0 < line.reader.rest) × (came ≡ []) × (now ≡ was))
-    ⊎ ((line.reader.ending ≢ Seen) × (length came ≡ 1)))
-AnswerEnds Cut line came was now = (now.state ≡ Dead) × (came ≡ []) × ((now ≡ was) ⊎ (line.reader.ending ≢ Seen))
-AnswerEnds ReportFault line came was now = (came ≡ []) × (now ≡ was)
-AnswerEnds Memory line came was now = ⊥
+AnswerEnds Unfinished line further was now =
+    (now.state ≢ Dead) × (((line.reader.ending ≡ Seen) × (0 < line.reader.rest) × (further ≡ []) × (now ≡ was))
+    ⊎ ((line.reader.ending ≢ Seen) × (length further ≡ 1)))
+AnswerEnds Cut line further was now = (now.state ≡ Dead) × (further ≡ []) × ((now ≡ was) ⊎ (line.reader.ending ≢ Seen))
+AnswerEnds ReportFault line further was now = (further ≡ []) × (now ≡ was)
+AnswerEnds Memory line further was now = ⊥
 
 -- how a view ends: the bytes that came after the last turn, one at most, and the answer
 pub record AnswerRun (line : LineView) (was now : InView) (ended : Ended) : Type 0 where
-  pub came : List ℕ
-  pub gave : Gave was came now
-  pub ends : AnswerEnds ended line came was now
+  pub further : List ℕ
+  pub gave : Gave was further now
+  pub ends : AnswerEnds ended line further was now
 
 -- the same, with the last line of the text
 pub record FinishRun (turns : ℕ) (line : LineView) (was now : InView) (old new : SinkView)

@@ -51,25 +51,25 @@ pub record ViewStands (form : LineForm) (first now : InView) (read : List ℕ) (
 -- some pieces of a turn went by
 pub record ViewMoves (form : LineForm) (first now : InView) (read : List ℕ) (t : ℕ) (old new : LineView)
     (olds news : List Watched) (msi : List (ℕ × ℕ)) : Type 0 where
-  pub came : List ℕ
-  pub stands : ViewStands form first now (read ++ came) t new news msi
-  pub earlier : (available : List ℕ) → MayBe form.scrambled new.reader.ending (read ++ came) available
+  pub further : List ℕ
+  pub stands : ViewStands form first now (read ++ further) t new news msi
+  pub earlier : (available : List ℕ) → MayBe form.scrambled new.reader.ending (read ++ further) available
       → MayBe form.scrambled old.reader.ending read available
   pub shows : map showing_of news ≡ map showing_of olds
 
 -- turn t + 1 went by, and this was seen of the line
 pub record TurnMoves (form : LineForm) (first now : InView) (read : List ℕ) (t : ℕ) (old new : LineView)
     (olds news : List Watched) (seen : TurnSeen) (msi : List (ℕ × ℕ)) : Type 0 where
-  pub came : List ℕ
-  pub stands : ViewStands form first now (read ++ came) (t + 1) new news []
-  pub earlier : (available : List ℕ) → MayBe form.scrambled new.reader.ending (read ++ came) available
+  pub further : List ℕ
+  pub stands : ViewStands form first now (read ++ further) (t + 1) new news []
+  pub earlier : (available : List ℕ) → MayBe form.scrambled new.reader.ending (read ++ further) available
       → MayBe form.scrambled old.reader.ending read available
   pub shows : map showing_of news ≡ map showing_of olds
-  pub seen_is : (available : List ℕ) → MayBe form.scrambled new.reader.ending (read ++ came) available
+  pub seen_is : (available : List ℕ) → MayBe form.scrambled new.reader.ending (read ++ further) available
       → seen ≡ seen_at form available t
-  pub msi_is : (available : List ℕ) → MayBe form.scrambled new.reader.ending (read ++ came) available
+  pub msi_is : (available : List ℕ) → MayBe form.scrambled new.reader.ending (read ++ further) available
       → msi ≡ msi_came form available t
-  pub told : (available : List ℕ) → MayBe form.scrambled new.reader.ending (read ++ came) available
+  pub told : (available : List ℕ) → MayBe form.scrambled new.reader.ending (read ++ further) available
       → (i : ℕ) (one : Watched)
       → slice_get news i ≡ Some one
       → begun one t ≡ true → one.told ≡ told_at (own_of one) one.first available t

@@ -19,8 +19,8 @@ use Rattle.node_core.specs.Asking.{LinesAsked}
 pub record LinesAnswer (n : ℕ) (pieces : PiecesView) (lines : List LineView) (was is : BaysView)
     (more : Bool) : Type 0 where
   pub asked : LinesAsked n pieces lines was is
-  pub some : more ≡ true → (a : ℕ) × (a < n) × (has_come (asked.came a) ≡ true)
-  pub none : more ≡ false → (a : ℕ) → has_come (asked.came a) ≡ false
+  pub some : more ≡ true → (a : ℕ) × (a < n) × (has_come (asked.further a) ≡ true)
+  pub none : more ≡ false → (a : ℕ) → has_come (asked.further a) ≡ false
 
 -- the port has pieces, and its place is dead
 abbrev pub is_cut : PiecesView → BaysView → PortName → Bool

@@ -19,9 +19,9 @@ use Rattle.node_links.specs.declared.link.Link.{Link}
 pub record TookText (past : ℕ) (old : Link) (was : InView) (new : Link) (is : InView) : Type 0 where
   pub same : SameEntry old new
   pub giving : new.pipe.giving ≡ old.pipe.giving
-  pub took : is_on past old ≡ true → (x : Connection) (first : InView) (taken : List ℕ) → IsLinkOf x old
-      → ClientInStands x first was taken (own_turn x past) old.pipe.taking
-      → ClientTook x first is taken (own_turn x past) old.pipe new.pipe
+  pub took : is_on past old ≡ true → (x : Connection) (first : InView) (read : List ℕ) → IsLinkOf x old
+      → ClientInStands x first was read (own_turn x past) old.pipe.taking
+      → ClientTook x first is read (own_turn x past) old.pipe new.pipe
 
 -- a connection gives its client what the turn brings it
 pub record GaveText (old : Link) (was : OutView) (new : Link) (is : OutView) : Type 0 where

@@ -16,9 +16,9 @@ pub record FramedSome (first now : InView) (read emitted : List ℕ) (lines : Li
 -- a call in which the text may have gone on
 pub record Makes (first now : InView) (read emitted : List ℕ) (old new : LinesView)
     (was is : FramerState) : Type 0 where
-  pub more_read : List ℕ
-  pub stands : FramedSome first now (read ++ more_read) emitted new is
-  pub earlier : (text : List ℕ) → MayBe new (read ++ more_read) text → MayBe old read text
+  pub further : List ℕ
+  pub stands : FramedSome first now (read ++ further) emitted new is
+  pub earlier : (text : List ℕ) → MayBe new (read ++ further) text → MayBe old read text
   pub sapi : is.sapi ≡ was.sapi
   pub fcs : is.stream.fcs ≡ was.stream.fcs
 

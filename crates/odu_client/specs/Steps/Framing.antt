@@ -20,13 +20,13 @@ pub record StreamReady (packets : List (List ℕ)) (emitted : List ℕ) (stream 
   pub seen : stream.answer ≢ Packet → gfp_length packets stream.fcs ≤ length emitted
   pub count : stream.packets ≡ saturated (length packets)
 
--- what was read of the text in a call: nothing, if its lines had ended
+-- What was read of the text in a call. Where its lines had ended, no packet is new, and they are as they were.
 pub record TextGoes (first now : InView) (read : List ℕ) (packets : List (List ℕ)) (old new : LinesView) (fcs : Bool)
     (stream : StreamState) : Type 0 where
-  pub more_read : List ℕ
+  pub further : List ℕ
   pub more : List (List ℕ)
-  pub text : TextStands first now (read ++ more_read) (packets ++ more) new stream
-  pub earlier : (text : List ℕ) → MayBe new (read ++ more_read) text → MayBe old read text
+  pub text : TextStands first now (read ++ further) (packets ++ more) new stream
+  pub earlier : (text : List ℕ) → MayBe new (read ++ further) text → MayBe old read text
   pub still : old.answer ≢ Packet → (more ≡ []) × (new ≡ old)
   pub same : stream.fcs ≡ fcs
 

@@ -40,10 +40,10 @@ pub record BlockLost (was is : InView) : Type 0 where
   pub dead : is.state ≡ Dead
 
 -- the last read: before it there was no LF, and no more bytes of a line than it may have
-pub record LastRead (hand : List ℕ) (ended : Bool) (came : List ℕ) (seen : Bool) : Type 0 where
+pub record LastRead (hand : List ℕ) (ended : Bool) (further : List ℕ) (seen : Bool) : Type 0 where
   pub before : List ℕ
   pub last : List ℕ
-  pub parts : came ≡ before ++ last
+  pub parts : further ≡ before ++ last
   pub blocks : length before % 4096 ≡ 0
   pub most : length last ≤ 4096
   pub whole : seen ≡ false → length last % 4096 ≡ 0
@@ -53,23 +53,23 @@ pub record LastRead (hand : List ℕ) (ended : Bool) (came : List ℕ) (seen : B
   pub short : length (hand ++ before) ≤ 131055
 
 -- These bytes came in blocks behind the bytes in hand, with which a line began. The place lives on.
-pub record Came (hand : List ℕ) (ended : Bool) (was : InView) (came : List ℕ) (seen : Bool)
+pub record Came (hand : List ℕ) (ended : Bool) (was : InView) (further : List ℕ) (seen : Bool)
     (is : InView) : Type 0 where
-  pub gave : Gave was came is
-  pub quiet : ended ≡ true → (came ≡ []) × (seen ≡ true)
+  pub gave : Gave was further is
+  pub quiet : ended ≡ true → (further ≡ []) × (seen ≡ true)
   pub over : (ended ≡ true → was.state ≡ Live → HasEnded was.left was.ended) → seen ≡ true → is.state ≡ Live
       → HasEnded is.left is.ended
   pub unended : seen ≡ false → is.ended ≡ was.ended
   pub alive : is.state ≡ was.state
-  pub blocks : seen ≡ false → length came % 4096 ≡ 0
-  pub reads : ((came ≡ []) × (seen ≡ ended)) ⊎ LastRead hand ended came seen
+  pub blocks : seen ≡ false → length further % 4096 ≡ 0
+  pub reads : ((further ≡ []) × (seen ≡ ended)) ⊎ LastRead hand ended further seen
 
 -- a line that began so goes on
 pub record Goes (hand : List ℕ) (ended : Bool) (was : InView) (new : CutView) (is : InView) : Type 0 where
-  pub came : List ℕ
-  pub reads : Came hand ended was came new.ended is
+  pub further : List ℕ
+  pub reads : Came hand ended was further new.ended is
   pub clean : has_lf new.line ≡ false
-  pub all : hand ++ came ≡ new.line ++ new.hand
+  pub all : hand ++ further ≡ new.line ++ new.hand
 
 -- what was met behind a line's beginning, where these are all the bytes
 abbrev pub Met : Cut → List ℕ → CutView → Type 0
@@ -82,10 +82,10 @@ Met Lost all new = ⊥
 -- a line that began so is cut
 pub record Cuts (result : Cut) (hand : List ℕ) (ended : Bool) (was : InView) (new : CutView)
     (is : InView) : Type 0 where
-  pub came : List ℕ
-  pub reads : Came hand ended was came new.ended is
+  pub further : List ℕ
+  pub reads : Came hand ended was further new.ended is
   pub clean : has_lf new.line ≡ false
-  pub met : Met result (hand ++ came) new
+  pub met : Met result (hand ++ further) new
 
 -- the place died while such a line went on
 pub record Loses (hand : List ℕ) (ended : Bool) (was : InView) (new : CutView) (is : InView) : Type 0 where

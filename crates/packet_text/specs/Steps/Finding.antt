@@ -37,24 +37,24 @@ abbrev pub with_answer : Found → LinesView → LinesView
 with_answer result view = record view { answer = answer_of result view.number }
 
 -- a place that lives on, or was not live, of which these bytes were taken when so many packets were asked for
-pub record Reaches (first : InView) (taken : List ℕ) (asked : ℕ) (seen : Bool) (now : InView) : Type 0 where
-  pub gave : Gave first taken now
+pub record Reaches (first : InView) (read : List ℕ) (asked : ℕ) (seen : Bool) (now : InView) : Type 0 where
+  pub gave : Gave first read now
   pub over : seen ≡ true → now.state ≡ Live → HasEnded now.left now.ended
   pub unended : seen ≡ false → now.ended ≡ first.ended
   pub alive : now.state ≡ first.state
-  pub read : ReadAsNeeded seen asked taken
+  pub needed : ReadAsNeeded seen asked read
 
 -- behind the lines so far, which gave these packets, one more is sought
-pub record Seeks (first : InView) (taken : List ℕ) (packets : List (List ℕ)) (view : LinesView)
+pub record Seeks (first : InView) (read : List ℕ) (packets : List (List ℕ)) (view : LinesView)
     (now : InView) : Type 0 where
-  pub reaches : Reaches first taken (length packets + 1) view.ended now
-  pub goes : GoesOn taken packets view
+  pub reaches : Reaches first read (length packets + 1) view.ended now
+  pub goes : GoesOn read packets view
 
 -- what was found: an empty line, behind which one is sought yet, or the next answer
-pub record Finds (result : Found) (first : InView) (taken : List ℕ) (packets : List (List ℕ)) (old new : LinesView)
+pub record Finds (result : Found) (first : InView) (read : List ℕ) (packets : List (List ℕ)) (old new : LinesView)
     (now : InView) : Type 0 where
-  pub came : List ℕ
-  pub quiet : old.ended ≡ true → (came ≡ []) × (new.ended ≡ true)
-  pub empty : result ≡ Empty → Seeks first (taken ++ came) packets new now
-  pub stands : result ≢ Empty → LinesStand first now (taken ++ came)
+  pub further : List ℕ
+  pub quiet : old.ended ≡ true → (further ≡ []) × (new.ended ≡ true)
+  pub empty : result ≡ Empty → Seeks first (read ++ further) packets new now
+  pub stands : result ≢ Empty → LinesStand first now (read ++ further)
       (packets ++ given_by (answer_of result new.number) new.packet) (with_answer result new)

@@ -43,17 +43,17 @@ pub record OneMore (text old new : List ℕ) : Type 0 where
   pub more : new ≡ old ++ record_of (packet_of digits)
 
 -- a text has these lines, and their records have more bytes than so many
-pub record IsCut (lines : List (List ℕ)) (text : List ℕ) (went : ℕ) : Type 0 where
+pub record IsCut (lines : List (List ℕ)) (text : List ℕ) (written : ℕ) : Type 0 where
   pub are : AreLines lines text
-  pub less : went < length (lines_records lines)
+  pub less : written < length (lines_records lines)
 
-pub record HasCut (text : List ℕ) (went : ℕ) : Type 0 where
+pub record HasCut (text : List ℕ) (written : ℕ) : Type 0 where
   pub lines : List (List ℕ)
-  pub cut : IsCut lines text went
+  pub cut : IsCut lines text written
 
 -- So many bytes of lines' records end at the line that begins there in the text: the lines before it are within with
 -- their whole records, and of its own so many bytes.
-pub record StopsAt (all : List (List ℕ)) (text : List ℕ) (went done left : ℕ) : Type 0 where
+pub record StopsAt (all : List (List ℕ)) (text : List ℕ) (written done left : ℕ) : Type 0 where
   pub lines : List (List ℕ)
   pub digits : List ℕ
   pub later : List (List ℕ)
@@ -62,29 +62,29 @@ pub record StopsAt (all : List (List ℕ)) (text : List ℕ) (went done left : �
   pub line : is_whole_line digits ≡ true
   pub before : take done text ≡ lines_text lines
   pub behind : drop done text ≡ lines_text (digits ∷ later)
-  pub size : went ≡ length (lines_records lines) + left
+  pub size : written ≡ length (lines_records lines) + left
   pub less : left < length (record_of (packet_of digits))
 
 -- What went ends in the record of the line with these digits, of which this rest is left; the text is that of the lines
 -- before and these digits.
-pub record PartWent (text went digits rest : List ℕ) : Type 0 where
+pub record PartWent (text written digits rest : List ℕ) : Type 0 where
   pub lines : List (List ℕ)
   pub good : are_lines lines ≡ true
   pub line : is_whole_line digits ≡ true
   pub is : text ≡ lines_text lines ++ digits
   pub part : List ℕ
-  pub gone : went ≡ lines_records lines ++ part
+  pub gone : written ≡ lines_records lines ++ part
   pub cut : part ++ rest ≡ record_of (packet_of digits)
 
 -- what went of a text by its records: of lines alone, all; else the lines in front, and a part of the record of the
 -- line that is in hand
-abbrev pub LinesLeft : Written → (text went digits rest : List ℕ) → Type 0
-LinesLeft Whole text went digits rest = Gathered text went × (digits ≡ []) × (rest ≡ [])
-LinesLeft Lost text went digits rest = PartWent text went digits rest
+abbrev pub LinesLeft : Written → (text written digits rest : List ℕ) → Type 0
+LinesLeft Whole text written digits rest = Gathered text written × (digits ≡ []) × (rest ≡ [])
+LinesLeft Lost text written digits rest = PartWent text written digits rest
 
 -- records of lines went to a sink
 pub record WentLines (answer : Written) (text : List ℕ) (first : Option (List ℕ)) (digits rest : List ℕ)
     (now : Option (List ℕ)) : Type 0 where
-  pub went : List ℕ
-  pub got : now ≡ after first went
-  pub left : LinesLeft answer text went digits rest
+  pub written : List ℕ
+  pub got : now ≡ after first written
+  pub left : LinesLeft answer text written digits rest

@@ -4,6 +4,6 @@ use Rattle.otn_ports.specs.Bytes.{after}
 
 -- bytes went from the front of a rest to a sink
 pub record Went (old : List ℕ) (before' : Option (List ℕ)) (new : List ℕ) (now : Option (List ℕ)) : Type 0 where
-  pub went : List ℕ
-  pub parts : old ≡ went ++ new
-  pub got : now ≡ after before' went
+  pub written : List ℕ
+  pub parts : old ≡ written ++ new
+  pub got : now ≡ after before' written

@@ -7,7 +7,7 @@ use Rattle.tributary_line.specs.TapTurn.{TapView, TapStands}
 
 -- some pieces of a turn went by
 pub record TapMoves (own : Tributary) (first now : InView) (read : List ℕ) (t : ℕ) (old new : TapView) : Type 0 where
-  pub came : List ℕ
-  pub stands : TapStands own first now (read ++ came) t new
-  pub earlier : (available : List ℕ) → MayBe false new.line.reader.ending (read ++ came) available
+  pub further : List ℕ
+  pub stands : TapStands own first now (read ++ further) t new
+  pub earlier : (available : List ℕ) → MayBe false new.line.reader.ending (read ++ further) available
       → MayBe false old.line.reader.ending read available

@@ -19,26 +19,26 @@ no_channel = record { text = []; packets = 0; losses = 0 }
 -- Of the text of these packets the first part was due to a place, and the rest is held. Without packets the place is as
 -- it was.
 pub record LinesHeld (first now : OutView) (packets : List (List ℕ)) (text : List ℕ) : Type 0 where
-  pub gone : List ℕ
-  pub sent : IsSent first gone now
-  pub parts : gone ++ text ≡ hex_text packets
+  pub due : List ℕ
+  pub sent : IsSent first due now
+  pub parts : due ++ text ≡ hex_text packets
   pub quiet : packets ≡ [] → now ≡ first
 
 -- what arrived on the channel of this CID is held for its place, and counted
-pub record ChannelStands (first now : OutView) (cid : ℕ) (came : List ChannelArrival)
+pub record ChannelStands (first now : OutView) (cid : ℕ) (further : List ChannelArrival)
     (channel : ChannelView) : Type 0 where
-  pub lines : LinesHeld first now (packets_on cid came) channel.text
-  pub packets : channel.packets ≡ saturated (packet_count cid came)
-  pub losses : channel.losses ≡ saturated (loss_count cid came)
+  pub lines : LinesHeld first now (packets_on cid further) channel.text
+  pub packets : channel.packets ≡ saturated (packet_count cid further)
+  pub losses : channel.losses ≡ saturated (loss_count cid further)
 
 -- the channel of a CID
 abbrev pub channel_at : List ChannelView → (cid : ℕ) → ChannelView
 channel_at channels cid = get_or channels cid no_channel
 
 -- what arrived on them is held for their client outputs, and counted
-pub record ChannelsStand (first now : BaysView) (came : List ChannelArrival)
+pub record ChannelsStand (first now : BaysView) (further : List ChannelArrival)
     (channels : List ChannelView) : Type 0 where
-  pub each : (cid : ℕ) → cid < CLIENTS → ChannelStands (client_out_at first cid) (client_out_at now cid) cid came
+  pub each : (cid : ℕ) → cid < CLIENTS → ChannelStands (client_out_at first cid) (client_out_at now cid) cid further
       (channel_at channels cid)
 
 -- the first channels, so many, hold no line
@@ -46,9 +46,9 @@ pub record NoneHeld (count : ℕ) (channels : List ChannelView) : Type 0 where
   pub each : (cid : ℕ) → cid < count → (channel_at channels cid).text ≡ []
 
 -- what arrived is held and counted
-pub record OutputsStand (first now : BaysView) (came : List ChannelArrival) (outputs : OutputsView) : Type 0 where
-  pub channels : ChannelsStand first now came outputs.channels
-  pub other : outputs.other ≡ saturated (other_count came)
+pub record OutputsStand (first now : BaysView) (further : List ChannelArrival) (outputs : OutputsView) : Type 0 where
+  pub channels : ChannelsStand first now further outputs.channels
+  pub other : outputs.other ≡ saturated (other_count further)
 
 -- all places but the client outputs are as they were
 pub record OnlyClientsOut (first now : BaysView) : Type 0 where
@@ -63,20 +63,20 @@ last_run (run ∷ []) = run
 last_run (run ∷ next ∷ runs) = last_run (next ∷ runs)
 
 -- the reader has read these bytes of a run, behind which these arrivals came
-pub record RunRead (first now : BaysView) (earlier : List ChannelArrival) (taken : List ℕ) (reader : ReaderState)
+pub record RunRead (first now : BaysView) (earlier : List ChannelArrival) (read : List ℕ) (reader : ReaderState)
     (outputs : OutputsView) : Type 0 where
-  pub read : HasRead taken reader
-  pub held : OutputsStand first now (earlier ++ channel_arrivals taken) outputs
+  pub has_read : HasRead read reader
+  pub held : OutputsStand first now (earlier ++ channel_arrivals read) outputs
 
 -- all frames that came were read
-pub record AllRead (first now : BaysView) (came : List Arrival) (reader : ReaderState)
+pub record AllRead (first now : BaysView) (further : List Arrival) (reader : ReaderState)
     (outputs : OutputsView) : Type 0 where
-  pub read : HasRead (last_run (runs_of came)) reader
-  pub held : OutputsStand first now (flat_map channel_arrivals (runs_of came)) outputs
+  pub has_read : HasRead (last_run (runs_of further)) reader
+  pub held : OutputsStand first now (flat_map channel_arrivals (runs_of further)) outputs
 
 -- these bytes were taken by the aligner, and what they have was read
-pub record HoldsAfter (first now : BaysView) (taken : List ℕ) (aligner : AlignerState) (reader : ReaderState)
+pub record HoldsAfter (first now : BaysView) (read : List ℕ) (aligner : AlignerState) (reader : ReaderState)
     (outputs : OutputsView) : Type 0 where
-  pub aligned : HasAligned taken aligner
-  pub read : HasRead (last_run (runs_of (arrivals taken))) reader
-  pub held : OutputsStand first now (client_arrivals taken) outputs
+  pub aligned : HasAligned read aligner
+  pub has_read : HasRead (last_run (runs_of (arrivals read))) reader
+  pub held : OutputsStand first now (client_arrivals read) outputs

@@ -14,22 +14,22 @@ use Rattle.unbundle_command.specs.declared.unbundling.Unbundling.{Unbundling}
 
 -- The sink has seen t turns of the line, of which these bytes were taken: whatever else may come, all that it emitted
 -- was read. In a turn it emits 15,233 bytes at most.
-pub record Stands (first now : BaysView) (taken : List ℕ) (t : ℕ) (parts : Unbundling) : Type 0 where
-  pub tap : TapStands first_slot (line_in_at first 0) (line_in_at now 0) taken t parts.tap
-  pub holds : (given : List ℕ) → MayBe false parts.tap.line.reader.ending taken given
-      → HoldsAfter first now (emitted_before given t) (aligner_state parts.aligner) parts.reader parts.outputs
-  pub few : (given : List ℕ) → MayBe false parts.tap.line.reader.ending taken given
-      → length (emitted_before given t) ≤ (GROUPS + 1) * t
+pub record Stands (first now : BaysView) (read : List ℕ) (t : ℕ) (parts : Unbundling) : Type 0 where
+  pub tap : TapStands first_slot (line_in_at first 0) (line_in_at now 0) read t parts.tap
+  pub holds : (available : List ℕ) → MayBe false parts.tap.line.reader.ending read available
+      → HoldsAfter first now (emitted_before available t) (aligner_state parts.aligner) parts.reader parts.outputs
+  pub few : (available : List ℕ) → MayBe false parts.tap.line.reader.ending read available
+      → length (emitted_before available t) ≤ (GROUPS + 1) * t
 
 -- turn t + 1, with the bytes that were taken in it
-pub record TurnGone (first now : BaysView) (taken : List ℕ) (t : ℕ) (parts : Unbundling) : Type 0 where
-  pub came : List ℕ
-  pub stands : Stands first now (taken ++ came) (suc t) parts
+pub record TurnGone (first now : BaysView) (read : List ℕ) (t : ℕ) (parts : Unbundling) : Type 0 where
+  pub further : List ℕ
+  pub stands : Stands first now (read ++ further) (suc t) parts
 
 -- the first t turns went by, in which these bytes were taken
 pub record TurnsGone (first now : BaysView) (t : ℕ) (parts : Unbundling) : Type 0 where
-  pub taken : List ℕ
-  pub stands : Stands first now taken t parts
+  pub read : List ℕ
+  pub stands : Stands first now read t parts
 
 -- the sink stands between turns, and is one of slot 1
 pub record IsReady (parts : Unbundling) : Type 0 where

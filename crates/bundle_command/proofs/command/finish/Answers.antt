@@ -24,7 +24,7 @@ returns-then-eq-clause-ran g c = λ clients first h.
     let wrote = subst (λ cs. SinkWrites c.write_channels.result (sink_view g.K.Sink c.args.report.now) (lines_of cs is) (sink_view g.K.Sink c.write_channels.new.report)) c.deref.ensures.value c.write_channels.ensures in
     let lost : c.write_channels.result ≡ written.Lost = search rules in
     finishes clients first was is (sink_view g.K.Sink c.args.report.now) (sink_view g.K.Sink c.write_channels.new.report) c.args.turns c.args.parts.now c.settle.new.weaving _ c.requires.some c.requires.turns c.settle.ensures.alone
-    (λ given w. c.settle.ensures.settled clients first given w)
+    (λ emitted w. c.settle.ensures.settled clients first emitted w)
     (inl (refl, subst (λ r. SinkWrites r (sink_view g.K.Sink c.args.report.now) (lines_of c.settle.new.weaving.channels.items is) (sink_view g.K.Sink c.write_channels.new.report)) lost wrote)) h
 
 pub returns-clause-ran : goal.returns-clause-ran
@@ -34,5 +34,5 @@ returns-clause-ran g c = λ clients first h.
     let wrote = subst (λ cs. SinkWrites c.write_channels.result (sink_view g.K.Sink c.args.report.now) (lines_of cs is) (sink_view g.K.Sink c.write_channels.new.report)) c.deref.ensures.value c.write_channels.ensures in
     let whole : c.write_channels.result ≡ written.Whole = search rules in
     finishes clients first was is (sink_view g.K.Sink c.args.report.now) (sink_view g.K.Sink c.write_channels.new.report) c.args.turns c.args.parts.now c.settle.new.weaving c.ended.result c.requires.some c.requires.turns
-    c.settle.ensures.alone (λ given w. c.settle.ensures.settled clients first given w)
+    c.settle.ensures.alone (λ emitted w. c.settle.ensures.settled clients first emitted w)
     (inr (subst (λ r. SinkWrites r (sink_view g.K.Sink c.args.report.now) (lines_of c.settle.new.weaving.channels.items is) (sink_view g.K.Sink c.write_channels.new.report)) whole wrote, c.ended.ensures)) h

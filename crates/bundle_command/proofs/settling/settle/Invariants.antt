@@ -9,7 +9,7 @@ use Rattle.bundle_command.proofs.settling.settle.Given as goal
 abbrev pub invariant-loop-i : goal.invariant-loop-i
 invariant-loop-i g l = record {
   many : vec_len l.weaving.channels ≡ vec_len l.fn.weaving.channels;
-  settled : (clients : List ℕ) (first : BaysView) (given : List ℕ) → WeavingStands clients first (bays_view g.I.Source g.O.Sink l.fn.bays) given l.fn.weaving
-      → IsSettled l.i clients first (bays_view g.I.Source g.O.Sink l.bays) given l.weaving;
+  settled : (clients : List ℕ) (first : BaysView) (emitted : List ℕ) → WeavingStands clients first (bays_view g.I.Source g.O.Sink l.fn.bays) emitted l.fn.weaving
+      → IsSettled l.i clients first (bays_view g.I.Source g.O.Sink l.bays) emitted l.weaving;
   alone : OnlyInputs (bays_view g.I.Source g.O.Sink l.fn.bays) (bays_view g.I.Source g.O.Sink l.bays);
 }

@@ -28,7 +28,7 @@ loop-preserved g c =
       so_far = λ own stands.
           let first = in_view g.I.Source c.args.line.now in
           let h = c.loop.invariant.so_far own stands in
-          let run = step.run own first h.0.taken c.loop.counter h.0.stands in
+          let run = step.run own first h.0.read c.loop.counter h.0.stands in
           turns_more own first (in_view g.I.Source c.loop.line) (in_view g.I.Source c.write_turn.new.line) c.loop.counter c.loop.tap c.write_turn.new.tap
           (g.K.Sink.got c.args.report.now) (g.K.Sink.got c.loop.report) (g.K.Sink.got c.write_turn.new.report) false next.NextTurn h.0 h.1 run run.wrote;
       report = report_more None (sink_view g.K.Sink c.args.report.now) (sink_view g.K.Sink c.loop.report) (sink_view g.K.Sink c.write_turn.new.report) c.loop.invariant.report step.report;
@@ -40,18 +40,18 @@ returns-in-ReportFailed-clause-run g c = λ own stands.
     let h = c.loop.invariant.so_far own stands in
     turns_lost own first (in_view g.I.Source c.loop.line) (in_view g.I.Source c.write_turn.new.line) c.loop.counter c.loop.tap c.write_turn.new.tap
     (g.K.Sink.got c.args.report.now) (g.K.Sink.got c.loop.report) (g.K.Sink.got c.write_turn.new.report) h.0 h.1 c.loop-test.true
-    (c.in-ReportFailed.ensures.run own first h.0.taken c.loop.counter h.0.stands) c.in-ReportFailed.ensures.between.pieces
+    (c.in-ReportFailed.ensures.run own first h.0.read c.loop.counter h.0.stands) c.in-ReportFailed.ensures.between.pieces
 
 pub returns-in-LineEnded-clause-run : goal.returns-in-LineEnded-clause-run
 returns-in-LineEnded-clause-run g c = λ own stands.
     let first = in_view g.I.Source c.args.line.now in
     let now = in_view g.I.Source c.write_turn.new.line in
     let h = c.loop.invariant.so_far own stands in
-    let run = c.in-LineEnded.ensures.run own first h.0.taken c.loop.counter h.0.stands in
+    let run = c.in-LineEnded.ensures.run own first h.0.read c.loop.counter h.0.stands in
     let k = turns_more own first (in_view g.I.Source c.loop.line) now c.loop.counter c.loop.tap c.write_turn.new.tap
     (g.K.Sink.got c.args.report.now) (g.K.Sink.got c.loop.report) (g.K.Sink.got c.write_turn.new.report) true next.LineEnded h.0 h.1 run run.wrote in
     turns_end c.answer.result own first now (in_view g.I.Source c.answer.new.place) (c.loop.counter + 1) c.write_turn.new.tap
-    (g.K.Sink.got c.args.report.now) (g.K.Sink.got c.write_turn.new.report) k.0 (omega (arith, c.loop-test.true)) (λ given may. inl (k.1 given may)) c.in-LineEnded.ensures.between.pieces
+    (g.K.Sink.got c.args.report.now) (g.K.Sink.got c.write_turn.new.report) k.0 (omega (arith, c.loop-test.true)) (λ available may. inl (k.1 available may)) c.in-LineEnded.ensures.between.pieces
     (subst (λ (line : LineView). AnswerRun line now (in_view g.I.Source c.answer.new.place) c.answer.result) c.line.ensures c.answer.ensures)
 
 pub returns-clause-run : goal.returns-clause-run
@@ -61,7 +61,7 @@ returns-clause-run g c = λ own stands.
     let h = c.loop.invariant.so_far own stands in
     let last : c.loop.counter ≡ 16384 = omega (arith, c.loop-test.false, c.loop.auto.counter-end) in
     turns_end c.answer-2.result own first now (in_view g.I.Source c.answer-2.new.place) c.loop.counter c.loop.tap
-    (g.K.Sink.got c.args.report.now) (g.K.Sink.got c.loop.report) h.0 c.loop.auto.counter-end (λ given may. inr last) c.loop.invariant.between.pieces
+    (g.K.Sink.got c.args.report.now) (g.K.Sink.got c.loop.report) h.0 c.loop.auto.counter-end (λ available may. inr last) c.loop.invariant.between.pieces
     (subst (λ (line : LineView). AnswerRun line now (in_view g.I.Source c.answer-2.new.place) c.answer-2.result) c.line-2.ensures c.answer-2.ensures)
 
 pub returns-in-ReportFailed-clause-report : goal.returns-in-ReportFailed-clause-report

@@ -8,7 +8,7 @@ loop-init g c = record {
   pieces = c.requires.between;
   kind = c.requires.kind;
   few = let none = ap length c.requires.none in omega (arith, none);
-  moves = λ form first taken h. moves_none form first (in_view g.I.Source c.args.place.now) taken c.args.t c.args.line.now c.args.watched.now.items c.args.msi.now.items h;
+  moves = λ form first read h. moves_none form first (in_view g.I.Source c.args.place.now) read c.args.t c.args.line.now c.args.watched.now.items c.args.msi.now.items h;
 }
 
 pub loop-preserved : goal.loop-preserved
@@ -18,8 +18,8 @@ loop-preserved g c =
       pieces = piece.pieces ∙ ap (λ n. n + 1) c.loop.invariant.pieces;
       kind = piece.kind ∙ c.loop.invariant.kind;
       few = piece.few;
-      moves = λ form first taken h.
-          moves_twice form first (in_view g.I.Source c.loop.place) (in_view g.I.Source c.take_piece.new.place) taken c.args.t c.args.line.now c.loop.line c.take_piece.new.line
+      moves = λ form first read h.
+          moves_twice form first (in_view g.I.Source c.loop.place) (in_view g.I.Source c.take_piece.new.place) read c.args.t c.args.line.now c.loop.line c.take_piece.new.line
           c.args.watched.now.items c.loop.watched.items c.take_piece.new.watched.items c.loop.msi.items c.take_piece.new.msi.items
-          (c.loop.invariant.moves form first taken h) (λ stands. piece.moves form first (taken ++ (c.loop.invariant.moves form first taken h).came) stands);
+          (c.loop.invariant.moves form first read h) (λ stands. piece.moves form first (read ++ (c.loop.invariant.moves form first read h).further) stands);
     }

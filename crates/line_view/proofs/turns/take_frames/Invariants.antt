@@ -11,6 +11,6 @@ invariant-loop g l = record {
   pieces : l.line.pieces ≡ l.counter;
   kind : l.line.kind ≡ l.fn.kind;
   few : length l.msi.items ≤ l.line.pieces;
-  moves : (form : LineForm) (first : InView) (taken : List ℕ) → ViewStands form first (in_view g.I.Source l.fn.place) taken l.t l.fn.line l.fn.watched.items l.fn.msi.items
-      → ViewMoves form first (in_view g.I.Source l.place) taken l.t l.fn.line l.line l.fn.watched.items l.watched.items l.msi.items;
+  moves : (form : LineForm) (first : InView) (read : List ℕ) → ViewStands form first (in_view g.I.Source l.fn.place) read l.t l.fn.line l.fn.watched.items l.fn.msi.items
+      → ViewMoves form first (in_view g.I.Source l.place) read l.t l.fn.line l.line l.fn.watched.items l.watched.items l.msi.items;
 }

@@ -5,7 +5,7 @@ use Rattle.line_view.specs.Steps.ViewRuns.{lines_of}
 use Rattle.line_view.proofs.viewing.write_turn.Goals as goal
 
 pub returns-then-eq-clause-run : goal.returns-then-eq-clause-run
-returns-then-eq-clause-run g c = λ form first taken h.
+returns-then-eq-clause-run g c = λ form first read h.
     let old = sink_view g.K.Sink c.args.report.now in
     let new = sink_view g.K.Sink c.write_lines.new.report in
     let seen = c.do_turn-seen.result in
@@ -13,7 +13,7 @@ returns-then-eq-clause-run g c = λ form first taken h.
     record {
       seen = seen;
       msi = c.do_turn-seen.new.msi.items;
-      moves = c.do_turn-seen.ensures.moves form first taken h;
+      moves = c.do_turn-seen.ensures.moves form first read h;
       wrote =
           subst (λ r. SinkWrites r old (lines_of c.args.t seen c.do_turn-seen.new.msi.items c.do_turn-seen.new.watched.items) new) lost
           (subst (λ xs. SinkWrites c.write_lines.result old (lines_of c.args.t seen c.do_turn-seen.new.msi.items xs) new) c.as_slice-2.ensures.value

@@ -41,7 +41,7 @@ loop-t-preserved g c =
           let form : LineForm = record { kind = c.args.kind; scrambled = c.args.scrambled } in
           let first = in_view g.I.Source c.args.place.now in
           let h = c.loop-t.invariant.so_far stands in
-          let run = step.run form first h.0.taken h.0.stands in
+          let run = step.run form first h.0.read h.0.stands in
           turns_more form (map showing_of c.args.watched.now.items) first (in_view g.I.Source c.loop-t.place) (in_view g.I.Source c.write_turn.new.place) c.loop-t.t c.loop-t.line c.write_turn.new.line
           c.loop-t.watched.items c.write_turn.new.watched.items
           (sink_view g.K.Sink c.args.report.now) (sink_view g.K.Sink c.loop-t.report) (sink_view g.K.Sink c.write_turn.new.report) false next.NextTurn h.0 h.1 run run.wrote;
@@ -55,7 +55,7 @@ returns-in-ReportFailed g c = λ stands.
     turns_lost form (map showing_of c.args.watched.now.items) first (in_view g.I.Source c.loop-t.place) (in_view g.I.Source c.write_turn.new.place) c.loop-t.t c.loop-t.line c.write_turn.new.line
     c.loop-t.watched.items c.write_turn.new.watched.items
     (sink_view g.K.Sink c.args.report.now) (sink_view g.K.Sink c.loop-t.report) (sink_view g.K.Sink c.write_turn.new.report) h.0 h.1 c.loop-t-test.true c.in-ReportFailed.ensures.between
-    (c.in-ReportFailed.ensures.run form first h.0.taken h.0.stands)
+    (c.in-ReportFailed.ensures.run form first h.0.read h.0.stands)
 
 pub returns-in-LineEnded : goal.returns-in-LineEnded
 returns-in-LineEnded g c = λ stands.
@@ -63,12 +63,12 @@ returns-in-LineEnded g c = λ stands.
     let first = in_view g.I.Source c.args.place.now in
     let now = in_view g.I.Source c.write_turn.new.place in
     let h = c.loop-t.invariant.so_far stands in
-    let run = c.in-LineEnded.ensures.run form first h.0.taken h.0.stands in
+    let run = c.in-LineEnded.ensures.run form first h.0.read h.0.stands in
     let k = turns_more form (map showing_of c.args.watched.now.items) first (in_view g.I.Source c.loop-t.place) now c.loop-t.t c.loop-t.line c.write_turn.new.line
     c.loop-t.watched.items c.write_turn.new.watched.items
     (sink_view g.K.Sink c.args.report.now) (sink_view g.K.Sink c.loop-t.report) (sink_view g.K.Sink c.write_turn.new.report) true next.LineEnded h.0 h.1 run run.wrote in
     turns_end c.finish.result form (map showing_of c.args.watched.now.items) first now (in_view g.I.Source c.finish.new.place) (c.loop-t.t + 1) c.write_turn.new.line c.write_turn.new.watched.items
-    (sink_view g.K.Sink c.args.report.now) (sink_view g.K.Sink c.write_turn.new.report) (sink_view g.K.Sink c.finish.new.report) k.0 (omega (arith, c.loop-t-test.true)) (λ given may. inl (k.1 given may)) c.in-LineEnded.ensures.between c.finish.ensures
+    (sink_view g.K.Sink c.args.report.now) (sink_view g.K.Sink c.write_turn.new.report) (sink_view g.K.Sink c.finish.new.report) k.0 (omega (arith, c.loop-t-test.true)) (λ available may. inl (k.1 available may)) c.in-LineEnded.ensures.between c.finish.ensures
 
 pub returns : goal.returns
 returns g c = λ stands.
@@ -80,4 +80,4 @@ returns g c = λ stands.
     turns_end c.finish-2.result form (map showing_of c.args.watched.now.items) first now (in_view g.I.Source c.finish-2.new.place) 16384 c.loop-t.line c.loop-t.watched.items
     (sink_view g.K.Sink c.args.report.now) (sink_view g.K.Sink c.loop-t.report) (sink_view g.K.Sink c.finish-2.new.report)
     (subst (λ n. TurnsSoFar form (map showing_of c.args.watched.now.items) first now n c.loop-t.line c.loop-t.watched.items (sink_view g.K.Sink c.args.report.now) (sink_view g.K.Sink c.loop-t.report)) last h.0)
-    (omega arith) (λ given may. inr refl) c.loop-t.invariant.between c.finish-2.ensures
+    (omega arith) (λ available may. inr refl) c.loop-t.invariant.between c.finish-2.ensures

@@ -17,5 +17,5 @@ invariant-loop-t g l = record {
   so_far : ((first : InView) → ViewStands (record { kind = l.fn.kind; scrambled = l.fn.scrambled }) first first [] 0 l.fn.line l.fn.watched.items [])
       → (h : TurnsSoFar (record { kind = l.fn.kind; scrambled = l.fn.scrambled }) (map showing_of l.fn.watched.items) (in_view g.I.Source l.fn.place) (in_view g.I.Source l.place) l.t l.line l.watched.items
       (sink_view g.K.Sink l.fn.report) (sink_view g.K.Sink l.report))
-      × HasLast (record { kind = l.fn.kind; scrambled = l.fn.scrambled }) l.t l.line h.taken false;
+      × HasLast (record { kind = l.fn.kind; scrambled = l.fn.scrambled }) l.t l.line h.read false;
 }

@@ -9,8 +9,8 @@ loop-node-preserved g c =
     let e = c.step.ensures in
     let less = left_step c.nth_ready-port.result c.loop-node.node c.step.new.self c.nth_ready-port.ensures.ready e.piece e.turns e.past in
     record {
-      stands = λ plan first taken h. later_twice plan first taken c.args.node.now c.loop-node.node c.step.new.self (bays_view g.P.Source g.K.Sink c.loop-node.bays) (bays_view g.P.Source g.K.Sink c.step.new.bays)
-          (c.loop-node.invariant.stands plan first taken h) (λ k. e.stands plan first _ k);
+      stands = λ plan first read h. later_twice plan first read c.args.node.now c.loop-node.node c.step.new.self (bays_view g.P.Source g.K.Sink c.loop-node.bays) (bays_view g.P.Source g.K.Sink c.step.new.bays)
+          (c.loop-node.invariant.stands plan first read h) (λ k. e.stands plan first _ k);
       turns = e.turns ∙ c.loop-node.invariant.turns;
       asked = asked_more _ _ _ _ _ c.pick.ensures less c.loop-node.invariant.asked;
     }
@@ -31,8 +31,8 @@ loop-node-preserved-then-count-eq0 g c =
     let going : c.loop-node.node.past < c.loop-node.node.turns = grind arith in
     let same = left_fence c.loop-node.node c.fence.new.self going (none_ready c.loop-node.node none) fence in
     record {
-      stands = λ plan first taken h. later_twice plan first taken c.args.node.now c.loop-node.node c.fence.new.self (bays_view g.P.Source g.K.Sink c.loop-node.bays) (bays_view g.P.Source g.K.Sink c.fence.new.bays)
-          (c.loop-node.invariant.stands plan first taken h) (λ k. c.fence.ensures.stands plan first _ k);
+      stands = λ plan first read h. later_twice plan first read c.args.node.now c.loop-node.node c.fence.new.self (bays_view g.P.Source g.K.Sink c.loop-node.bays) (bays_view g.P.Source g.K.Sink c.fence.new.bays)
+          (c.loop-node.invariant.stands plan first read h) (λ k. c.fence.ensures.stands plan first _ k);
       turns = fence.turns ∙ c.loop-node.invariant.turns;
       asked = asked_same (g.C.Chooser.asked c.loop-node.chooser) _ _ _ same c.loop-node.invariant.asked;
     }

@@ -9,8 +9,8 @@ use Rattle.node_core.proofs.runs.carry.Given as goal
 
 abbrev pub invariant-loop-node : goal.invariant-loop-node
 invariant-loop-node g l = record {
-  stands : (plan : Plan) (first : BaysView) (taken : InputBytes) → StandsAt plan first taken l.fn.node (bays_view g.P.Source g.K.Sink l.fn.bays)
-      → Later plan first taken l.fn.node l.node (bays_view g.P.Source g.K.Sink l.bays);
+  stands : (plan : Plan) (first : BaysView) (read : InputBytes) → StandsAt plan first read l.fn.node (bays_view g.P.Source g.K.Sink l.fn.bays)
+      → Later plan first read l.fn.node l.node (bays_view g.P.Source g.K.Sink l.bays);
   turns : l.node.turns ≡ l.fn.node.turns;
   asked : raised (g.C.Chooser.asked l.chooser) (left_of l.node) ≡ raised (g.C.Chooser.asked l.fn.chooser) (left_of l.fn.node);
 }

@@ -7,7 +7,7 @@ returns-clause-left g c = λ plan first h.
     c.numbers.ensures.left plan first (bays_view g.I.Source g.O.Sink c.settle-outcome.new.bays)
     (record {
       was = bays_view g.I.Source g.O.Sink c.carry.new.bays;
-      taken = later.more;
+      read = later.more;
       stands = later.stands;
       over = c.carry.ensures.finished;
       settled = c.settle-outcome.ensures.settled plan first later.more later.stands;

@@ -11,7 +11,7 @@ returns-then-not-piece g c =
     let line = c.piece.new.self in
     let off : line.has_frame ≡ false = sym c.piece.ensures.has_frame ∙ c.if-not-piece.true in
     record {
-      stands = λ form first taken t h. c.piece.ensures.stands form first taken t h;
+      stands = λ form first read t h. c.piece.ensures.stands form first read t h;
       pieces = c.piece.ensures.pieces;
       kind = c.piece.ensures.kind;
       expected = 0;
@@ -26,7 +26,7 @@ returns g c =
     let given = subst (λ (frame : List ℕ). EachLink (λ link then. TookFrame (takes_part c.args.past (port.LineIn c.args.a) link) (record { frame = frame; expected = c.expected.result }) link then) c.args.links.now.items c.hand_out.new.links.items)
     c.frame.ensures.hand c.hand_out.ensures in
     record {
-      stands = λ form first taken t h. c.piece.ensures.stands form first taken t h;
+      stands = λ form first read t h. c.piece.ensures.stands form first read t h;
       pieces = c.piece.ensures.pieces;
       kind = c.piece.ensures.kind;
       expected = c.expected.result;

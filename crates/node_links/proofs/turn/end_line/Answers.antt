@@ -13,6 +13,6 @@ returns c =
       stands = e.stands;
       ending = e.ending;
       kind = e.kind;
-      multiframe = λ now form first taken t s given m. (e.turn now form first taken t s given m).has_multiframe;
+      multiframe = λ now form first read t s given m. (e.turn now form first read t s given m).has_multiframe;
       pieces = e.pieces;
     })

@@ -1,5 +1,4 @@
 use Rattle.std.proofs.Common.{◌≡◌, ◌∙◌, List, ℕ, ap, sym, rules}
-use Rattle.number_lists.specs.NumberLists.{numbers_text}
 use Rattle.otn_base.specs.LineSlots.{slots_of}
 use Rattle.otn_base.specs.SlotList.{IsSlotList}
 use Rattle.line_view.specs.ViewText.{slots_text}

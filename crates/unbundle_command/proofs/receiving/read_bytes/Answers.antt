@@ -12,16 +12,16 @@ loop-done-preserved g c =
     let new = c.read_some-done.new in
     record {
       within = piece_within bytes done more c.loop-done.invariant.within c.read_some-done.ensures.within;
-      read = λ first earlier taken h.
-          run_same first (bays_view g.I.Source g.O.Sink new.bays) earlier (taken ++ take done bytes ++ take more (take (length bytes - done) (drop done bytes))) (taken ++ take (done + more) bytes) new.reader new.outputs
-          (more_taken taken bytes done more) (c.read_some-done.ensures.read first earlier (taken ++ take done bytes) (c.loop-done.invariant.read first earlier taken h));
+      read = λ first earlier read h.
+          run_same first (bays_view g.I.Source g.O.Sink new.bays) earlier (read ++ take done bytes ++ take more (take (length bytes - done) (drop done bytes))) (read ++ take (done + more) bytes) new.reader new.outputs
+          (more_taken read bytes done more) (c.read_some-done.ensures.read first earlier (read ++ take done bytes) (c.loop-done.invariant.read first earlier read h));
       alone = clients_twice _ _ _ c.loop-done.invariant.alone c.read_some-done.ensures.alone;
     }
 
 pub returns-clause-read : goal.returns-clause-read
-returns-clause-read g c = λ first earlier taken h.
+returns-clause-read g c = λ first earlier read h.
     let bytes = c.args.bytes.now in
     let done = c.loop-done.done in
     let l = c.loop-done in
-    run_same first (bays_view g.I.Source g.O.Sink l.bays) earlier (taken ++ take done bytes) (taken ++ bytes) l.reader l.outputs (all_taken taken bytes done l.invariant.within (search rules))
-    (l.invariant.read first earlier taken h)
+    run_same first (bays_view g.I.Source g.O.Sink l.bays) earlier (read ++ take done bytes) (read ++ bytes) l.reader l.outputs (all_taken read bytes done l.invariant.within (search rules))
+    (l.invariant.read first earlier read h)

@@ -8,8 +8,8 @@ use Rattle.unbundle_command.proofs.receiving.read_bytes.Given as goal
 abbrev pub invariant-loop-done : goal.invariant-loop-done
 invariant-loop-done g l = record {
   within : l.done ≤ length l.bytes;
-  read : (first : BaysView) (earlier : List ChannelArrival) (taken : List ℕ) → RunRead first (bays_view g.I.Source g.O.Sink l.fn.bays) earlier taken l.fn.reader l.fn.outputs
-      → RunRead first (bays_view g.I.Source g.O.Sink l.bays) earlier (taken ++ take l.done l.bytes) l.reader l.outputs;
+  read : (first : BaysView) (earlier : List ChannelArrival) (read : List ℕ) → RunRead first (bays_view g.I.Source g.O.Sink l.fn.bays) earlier read l.fn.reader l.fn.outputs
+      → RunRead first (bays_view g.I.Source g.O.Sink l.bays) earlier (read ++ take l.done l.bytes) l.reader l.outputs;
   alone : OnlyClientsOut (bays_view g.I.Source g.O.Sink l.fn.bays) (bays_view g.I.Source g.O.Sink l.bays);
 }
 

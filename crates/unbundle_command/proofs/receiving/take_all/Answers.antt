@@ -13,16 +13,16 @@ loop-done-preserved g c =
     let new = c.take_some-done.new in
     record {
       within = piece_within bytes done more c.loop-done.invariant.within c.take_some-done.ensures.within;
-      holds = λ first taken h.
-          holds_same first (bays_view g.I.Source g.O.Sink new.bays) (taken ++ take done bytes ++ take more (take (length bytes - done) (drop done bytes))) (taken ++ take (done + more) bytes) (aligner_state new.aligner) new.reader new.outputs
-          (more_taken taken bytes done more) (c.take_some-done.ensures.holds first (taken ++ take done bytes) (c.loop-done.invariant.holds first taken h));
+      holds = λ first read h.
+          holds_same first (bays_view g.I.Source g.O.Sink new.bays) (read ++ take done bytes ++ take more (take (length bytes - done) (drop done bytes))) (read ++ take (done + more) bytes) (aligner_state new.aligner) new.reader new.outputs
+          (more_taken read bytes done more) (c.take_some-done.ensures.holds first (read ++ take done bytes) (c.loop-done.invariant.holds first read h));
       alone = clients_twice _ _ _ c.loop-done.invariant.alone c.take_some-done.ensures.alone;
     }
 
 pub returns-clause-holds : goal.returns-clause-holds
-returns-clause-holds g c = λ first taken h.
+returns-clause-holds g c = λ first read h.
     let bytes = c.args.bytes.now in
     let done = c.loop-done.done in
     let l = c.loop-done in
-    holds_same first (bays_view g.I.Source g.O.Sink l.bays) (taken ++ take done bytes) (taken ++ bytes) (aligner_state l.aligner) l.reader l.outputs
-    (all_taken taken bytes done l.invariant.within (search rules)) (l.invariant.holds first taken h)
+    holds_same first (bays_view g.I.Source g.O.Sink l.bays) (read ++ take done bytes) (read ++ bytes) (aligner_state l.aligner) l.reader l.outputs
+    (all_taken read bytes done l.invariant.within (search rules)) (l.invariant.holds first read h)

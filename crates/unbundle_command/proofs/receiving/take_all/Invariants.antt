@@ -8,8 +8,8 @@ use Rattle.unbundle_command.proofs.receiving.take_all.Given as goal
 abbrev pub invariant-loop-done : goal.invariant-loop-done
 invariant-loop-done g l = record {
   within : l.done ≤ length l.bytes;
-  holds : (first : BaysView) (taken : List ℕ) → HoldsAfter first (bays_view g.I.Source g.O.Sink l.fn.bays) taken (aligner_state l.fn.aligner) l.fn.reader l.fn.outputs
-      → HoldsAfter first (bays_view g.I.Source g.O.Sink l.bays) (taken ++ take l.done l.bytes) (aligner_state l.aligner) l.reader l.outputs;
+  holds : (first : BaysView) (read : List ℕ) → HoldsAfter first (bays_view g.I.Source g.O.Sink l.fn.bays) read (aligner_state l.fn.aligner) l.fn.reader l.fn.outputs
+      → HoldsAfter first (bays_view g.I.Source g.O.Sink l.bays) (read ++ take l.done l.bytes) (aligner_state l.aligner) l.reader l.outputs;
   alone : OnlyClientsOut (bays_view g.I.Source g.O.Sink l.fn.bays) (bays_view g.I.Source g.O.Sink l.bays);
 }
 

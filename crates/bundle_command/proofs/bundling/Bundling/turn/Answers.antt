@@ -13,8 +13,8 @@ use Rattle.bundle_command.proofs.bundling.Bundling.turn.Goals as goal
 pub fill_front-requires-clause-ready : goal.fill_front-requires-clause-ready
 fill_front-requires-clause-ready g c = ready_frames (bays_view g.I.Source g.O.Sink c.args.bays.now) c.args.self.now c.requires.ready
 
-pub returns-clause-gone : goal.returns-clause-gone
-returns-clause-gone g c = λ clients first t h.
+pub returns-clause-due : goal.returns-clause-due
+returns-clause-due g c = λ clients first t h.
     let was = bays_view g.I.Source g.O.Sink c.args.bays.now in
     let mid = bays_view g.I.Source g.O.Sink c.fill_front.new.bays in
     let is = bays_view g.I.Source g.O.Sink (with_line_out c.fill_front.new.bays 0 c.turn.new.place) in
@@ -28,7 +28,7 @@ returns-clause-gone g c = λ clients first t h.
     let seen = line_out_seen g.I.Source g.O.Sink c.fill_front.new.bays 0 c.line_out_mut.result.now c.line_out_mut.ensures.value in
     let set = line_out_set g.I.Source g.O.Sink c.fill_front.new.bays 0 c.line_out_mut.result.now c.turn.new.place c.line_out_mut.ensures.value in
     turn_gone clients first was mid is (take 15168 into) t c.args.self.now (record { framing = c.fill_front.new.framing; feed = c.turn.new.self }) size c.fill_front.ensures.alone
-    (only_line_out g.I.Source g.O.Sink c.fill_front.new.bays 0 c.turn.new.place) (λ gone f. c.fill_front.ensures.stands clients first gone f)
+    (only_line_out g.I.Source g.O.Sink c.fill_front.new.bays 0 c.turn.new.place) (λ due f. c.fill_front.ensures.stands clients first due f)
     (λ turns fed fits. subst (λ v. FeedStands first_slot (line_out_at first 0) v (turns ++ take 15168 into ∷ []) c.turn.new.self) (sym set)
     (subst (λ (b : List ℕ). Completes first_slot turns b → FeedStands first_slot (line_out_at first 0) (out_view g.O.Sink c.turn.new.place) (turns ++ b ∷ []) c.turn.new.self) front
     (c.turn.ensures.stands first_slot (line_out_at first 0) turns (subst (λ v. FeedStands first_slot (line_out_at first 0) v turns c.args.self.now.feed) seen fed)) fits)) h

@@ -12,7 +12,7 @@ loop-done-init g c = record {
   within = omega arith;
   size = refl;
   ready = c.requires.ready;
-  stands = λ clients first gone h. subst (λ b. FramesStand clients first (bays_view g.I.Source g.O.Sink c.args.bays.now) b c.args.self.now) (sym (append-nil gone)) h;
+  stands = λ clients first due h. subst (λ b. FramesStand clients first (bays_view g.I.Source g.O.Sink c.args.bays.now) b c.args.self.now) (sym (append-nil due)) h;
   alone = only_none (bays_view g.I.Source g.O.Sink c.args.bays.now);
 }
 
@@ -29,14 +29,14 @@ loop-done-preserved g c =
       within = (let a = rest_length into done i.within in let b = e.within in omega arith);
       size = size ∙ i.size;
       ready = areready_on (bays_view g.I.Source g.O.Sink c.loop-done.bays) (bays_view g.I.Source g.O.Sink c.step-done.new.bays) (take c.step-done.result c.step-done.new.into) c.loop-done.self c.step-done.new.self e.stands i.ready;
-      stands = λ clients first gone h. subst (λ b. FramesStand clients first (bays_view g.I.Source g.O.Sink c.step-done.new.bays) b c.step-done.new.self)
-          (append_assoc gone (take done into) (take c.step-done.result c.step-done.new.into) ∙ ap (λ y. gone ++ y) (sym more))
-          (e.stands clients first (gone ++ take done into) (i.stands clients first gone h).has);
+      stands = λ clients first due h. subst (λ b. FramesStand clients first (bays_view g.I.Source g.O.Sink c.step-done.new.bays) b c.step-done.new.self)
+          (append_assoc due (take done into) (take c.step-done.result c.step-done.new.into) ∙ ap (λ y. due ++ y) (sym more))
+          (e.stands clients first (due ++ take done into) (i.stands clients first due h).has);
       alone = only_twice (bays_view g.I.Source g.O.Sink c.args.bays.now) (bays_view g.I.Source g.O.Sink c.loop-done.bays) (bays_view g.I.Source g.O.Sink c.step-done.new.bays) i.alone e.alone;
     }
 
 pub returns-clause-stands : goal.returns-clause-stands
-returns-clause-stands g c = λ clients first gone h.
+returns-clause-stands g c = λ clients first due h.
     let i = c.loop-done.invariant in
     let all : take c.loop-done.done c.loop-done.into ≡ c.loop-done.into = all_taken c.loop-done.into c.loop-done.done (search rules) i.within in
-    rw all at (i.stands clients first gone h)
+    rw all at (i.stands clients first due h)

@@ -9,8 +9,8 @@ invariant-loop-done g l = record {
   within : l.done ≤ length l.into;
   size : length l.into ≡ length l.fn.into;
   ready : AreReady (bays_view g.I.Source g.O.Sink l.bays) l.self;
-  stands : (clients : List ℕ) (first : BaysView) (gone : List ℕ) → FramesStand clients first (bays_view g.I.Source g.O.Sink l.fn.bays) gone l.fn.self
-      → FramesStand clients first (bays_view g.I.Source g.O.Sink l.bays) (gone ++ take l.done l.into) l.self;
+  stands : (clients : List ℕ) (first : BaysView) (due : List ℕ) → FramesStand clients first (bays_view g.I.Source g.O.Sink l.fn.bays) due l.fn.self
+      → FramesStand clients first (bays_view g.I.Source g.O.Sink l.bays) (due ++ take l.done l.into) l.self;
   alone : OnlyInputs (bays_view g.I.Source g.O.Sink l.fn.bays) (bays_view g.I.Source g.O.Sink l.bays);
 }
 

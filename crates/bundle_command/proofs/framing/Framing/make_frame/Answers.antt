@@ -12,12 +12,12 @@ fill_payload-requires g c =
       ready = record {
         clients = r.clients;
         first = r.first;
-        given = r.ready.given;
-        ready = stands_ready r.clients r.first (bays_view g.I.Source g.O.Sink c.args.bays.now) r.ready.given c.args.self.now.weaving r.ready.weaving;
+        emitted = r.ready.emitted;
+        ready = stands_ready r.clients r.first (bays_view g.I.Source g.O.Sink c.args.bays.now) r.ready.emitted c.args.self.now.weaving r.ready.weaving;
       };
     }
 
 pub returns-clause-stands : goal.returns-clause-stands
-returns-clause-stands g c = λ clients first gone h.
-    frame_made clients first (bays_view g.I.Source g.O.Sink c.args.bays.now) (bays_view g.I.Source g.O.Sink c.fill_payload.new.bays) gone (payload_of c.fill_payload.new.frame) c.args.self.now _
-    c.requires.gone c.args.self.now.size refl refl c.fill_payload.ensures.size (λ given w. c.fill_payload.ensures.stands clients first given w) (λ count given m. c.write.ensures.made count given m c.fill_payload.ensures.size) h
+returns-clause-stands g c = λ clients first due h.
+    frame_made clients first (bays_view g.I.Source g.O.Sink c.args.bays.now) (bays_view g.I.Source g.O.Sink c.fill_payload.new.bays) due (payload_of c.fill_payload.new.frame) c.args.self.now _
+    c.requires.due c.args.self.now.size refl refl c.fill_payload.ensures.size (λ emitted w. c.fill_payload.ensures.stands clients first emitted w) (λ count emitted m. c.write.ensures.made count emitted m c.fill_payload.ensures.size) h

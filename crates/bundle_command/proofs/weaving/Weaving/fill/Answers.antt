@@ -11,7 +11,7 @@ loop-done-init g c = record {
   within = omega arith;
   size = refl;
   ready = c.requires.ready;
-  stands = λ clients first given h. subst (λ b. WeavingStands clients first (bays_view g.I.Source g.O.Sink c.args.bays.now) b c.args.self.now) (sym (append-nil given)) h;
+  stands = λ clients first emitted h. subst (λ b. WeavingStands clients first (bays_view g.I.Source g.O.Sink c.args.bays.now) b c.args.self.now) (sym (append-nil emitted)) h;
   alone = only_none (bays_view g.I.Source g.O.Sink c.args.bays.now);
 }
 
@@ -28,14 +28,14 @@ loop-done-preserved g c =
       within = (let a = rest_length into done i.within in let b = e.within in omega arith);
       size = size ∙ i.size;
       ready = e.ready;
-      stands = λ clients first given h. subst (λ b. WeavingStands clients first (bays_view g.I.Source g.O.Sink c.step-done.new.bays) b c.step-done.new.self)
-          (append_assoc given (take done into) (take c.step-done.result c.step-done.new.into) ∙ ap (λ y. given ++ y) (sym more))
-          (e.stands clients first (given ++ take done into) (i.stands clients first given h));
+      stands = λ clients first emitted h. subst (λ b. WeavingStands clients first (bays_view g.I.Source g.O.Sink c.step-done.new.bays) b c.step-done.new.self)
+          (append_assoc emitted (take done into) (take c.step-done.result c.step-done.new.into) ∙ ap (λ y. emitted ++ y) (sym more))
+          (e.stands clients first (emitted ++ take done into) (i.stands clients first emitted h));
       alone = only_twice (bays_view g.I.Source g.O.Sink c.args.bays.now) (bays_view g.I.Source g.O.Sink c.loop-done.bays) (bays_view g.I.Source g.O.Sink c.step-done.new.bays) i.alone e.alone;
     }
 
 pub returns-clause-stands : goal.returns-clause-stands
-returns-clause-stands g c = λ clients first given h.
+returns-clause-stands g c = λ clients first emitted h.
     let i = c.loop-done.invariant in
     let all : take c.loop-done.done c.loop-done.into ≡ c.loop-done.into = all_taken c.loop-done.into c.loop-done.done (search rules) i.within in
-    rw all at (i.stands clients first given h)
+    rw all at (i.stands clients first emitted h)

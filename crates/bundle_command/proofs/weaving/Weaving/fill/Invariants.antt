@@ -10,8 +10,8 @@ invariant-loop-done g l = record {
   within : l.done ≤ length l.into;
   size : length l.into ≡ length l.fn.into;
   ready : IsReady (bays_view g.I.Source g.O.Sink l.bays) l.self;
-  stands : (clients : List ℕ) (first : BaysView) (given : List ℕ) → WeavingStands clients first (bays_view g.I.Source g.O.Sink l.fn.bays) given l.fn.self
-      → WeavingStands clients first (bays_view g.I.Source g.O.Sink l.bays) (given ++ take l.done l.into) l.self;
+  stands : (clients : List ℕ) (first : BaysView) (emitted : List ℕ) → WeavingStands clients first (bays_view g.I.Source g.O.Sink l.fn.bays) emitted l.fn.self
+      → WeavingStands clients first (bays_view g.I.Source g.O.Sink l.bays) (emitted ++ take l.done l.into) l.self;
   alone : OnlyInputs (bays_view g.I.Source g.O.Sink l.fn.bays) (bays_view g.I.Source g.O.Sink l.bays);
 }
 

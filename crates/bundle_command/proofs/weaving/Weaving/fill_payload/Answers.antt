@@ -16,7 +16,7 @@ returns-clause-size g c =
     ∙ rows_size c.fill.new.into c.fill-2.new.into c.fill-3.new.into c.fill-4.new.into s1 s2 s3 s4
 
 pub returns-clause-stands : goal.returns-clause-stands
-returns-clause-stands g c = λ clients first given h.
+returns-clause-stands g c = λ clients first emitted h.
     let s1 = c.fill.ensures.size ∙ c.payload_row_mut.ensures.size in
     let s2 = c.fill-2.ensures.size ∙ c.payload_row_mut-2.ensures.size in
     let s3 = c.fill-3.ensures.size ∙ c.payload_row_mut-3.ensures.size in
@@ -26,8 +26,8 @@ returns-clause-stands g c = λ clients first given h.
     let p3 = c.fill-3.new.into in
     let p4 = c.fill-4.new.into in
     subst (λ b. WeavingStands clients first (bays_view g.I.Source g.O.Sink c.fill-4.new.bays) b c.fill-4.new.self)
-    (four_rows given p1 p2 p3 p4 (payload_of (filled c.args.frame.now p1 p2 p3 p4)) (sym (payload_filled c.args.frame.now p1 p2 p3 p4 c.payload_row_mut.ensures.frame s1 s2 s3 s4)))
-    (c.fill-4.ensures.stands clients first (((given ++ p1) ++ p2) ++ p3) (c.fill-3.ensures.stands clients first ((given ++ p1) ++ p2) (c.fill-2.ensures.stands clients first (given ++ p1) (c.fill.ensures.stands clients first given h))))
+    (four_rows emitted p1 p2 p3 p4 (payload_of (filled c.args.frame.now p1 p2 p3 p4)) (sym (payload_filled c.args.frame.now p1 p2 p3 p4 c.payload_row_mut.ensures.frame s1 s2 s3 s4)))
+    (c.fill-4.ensures.stands clients first (((emitted ++ p1) ++ p2) ++ p3) (c.fill-3.ensures.stands clients first ((emitted ++ p1) ++ p2) (c.fill-2.ensures.stands clients first (emitted ++ p1) (c.fill.ensures.stands clients first emitted h))))
 
 pub returns-clause-alone : goal.returns-clause-alone
 returns-clause-alone g c =

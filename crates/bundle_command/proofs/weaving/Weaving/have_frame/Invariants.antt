@@ -8,8 +8,8 @@ use Rattle.bundle_command.proofs.weaving.Weaving.have_frame.Given as goal
 abbrev pub invariant-loop-index : goal.invariant-loop-index
 invariant-loop-index g l = record {
   ready : IsReady (bays_view g.I.Source g.O.Sink l.bays) l.self;
-  stands : (clients : List ℕ) (first : BaysView) (given : List ℕ) → WeavingReady clients first (bays_view g.I.Source g.O.Sink l.fn.bays) given l.fn.self
-      → WeavingReady clients first (bays_view g.I.Source g.O.Sink l.bays) given l.self;
+  stands : (clients : List ℕ) (first : BaysView) (emitted : List ℕ) → WeavingReady clients first (bays_view g.I.Source g.O.Sink l.fn.bays) emitted l.fn.self
+      → WeavingReady clients first (bays_view g.I.Source g.O.Sink l.bays) emitted l.self;
   alone : OnlyInputs (bays_view g.I.Source g.O.Sink l.fn.bays) (bays_view g.I.Source g.O.Sink l.bays);
 }
 

@@ -10,23 +10,23 @@ invariant_of-self c = record {
   sink = c.fence.ensures.slots c.self.inside.slots c.self.invariant.sink;
   source = c.fence-2.ensures.slots c.self.inside.slots c.self.invariant.source;
   fit = c.self.invariant.fit;
-  came = ap (λ (b : BurstView). b.room) (c.clear.ensures) ∙ ap (λ (b : BurstView). b.room) c.swap.ensures.x_after ∙ c.self.invariant.gives;
-  gives = c.fence-2.ensures.room_stays ∙ ap (λ (b : BurstView). b.room) c.swap.ensures.y_after ∙ c.fence.ensures.room_stays ∙ c.self.invariant.came;
+  incoming = ap (λ (b : BurstView). b.room) (c.clear.ensures) ∙ ap (λ (b : BurstView). b.room) c.swap.ensures.x_after ∙ c.self.invariant.outgoing;
+  outgoing = c.fence-2.ensures.room_stays ∙ ap (λ (b : BurstView). b.room) c.swap.ensures.y_after ∙ c.fence.ensures.room_stays ∙ c.self.invariant.incoming;
 }
 
 pub fence-requires-2 : goal.fence-requires-2
 fence-requires-2 c = record {
-  room = (c.self.inside.slots, c.self.invariant.source, ap (λ (b : BurstView). b.room) c.swap.ensures.y_after ∙ c.fence.ensures.room_stays ∙ c.self.invariant.came);
+  room = (c.self.inside.slots, c.self.invariant.source, ap (λ (b : BurstView). b.room) c.swap.ensures.y_after ∙ c.fence.ensures.room_stays ∙ c.self.invariant.incoming);
 }
 
 pub returns-clause-stands : goal.returns-clause-stands
 returns-clause-stands c = λ x input j filled ended at over h.
     let i = c.self.inside in
-    let old : PipeView = record { taking = i.taking; giving = i.giving; paces = i.paces.items; start = i.start; slots = i.slots; came = i.came.bytes; gives = i.gives.bytes } in
+    let old : PipeView = record { taking = i.taking; giving = i.giving; paces = i.paces.items; start = i.start; slots = i.slots; incoming = i.incoming.bytes; outgoing = i.outgoing.bytes } in
     let now : PipeStands x input j [] ended filled old = subst (PipeStands x input j [] ended filled) (sym c.self.view_is) h in
     let pace : c.pace_at-count.result ≡ pace_of x.pace j = own_pace x old c.args.turn j c.pace_at-count.result now.entry at (c.pace_at-count.ensures ∙ ap (λ paces. pace_of paces (c.args.turn - i.start)) c.deref.ensures.value) in
     let e = c.fence.ensures in
-    let handed : c.swap.new.y.bytes ≡ c.fence.new.came.bytes = ap (λ (b : BurstView). b.bytes) c.swap.ensures.y_after in
-    fenced x input j filled ended old c.fence.new.self c.fence-2.new.self c.clear.new.self.bytes c.fence-2.new.gives.bytes c.swap.new.y.bytes
+    let handed : c.swap.new.y.bytes ≡ c.fence.new.incoming.bytes = ap (λ (b : BurstView). b.bytes) c.swap.ensures.y_after in
+    fenced x input j filled ended old c.fence.new.self c.fence-2.new.self c.clear.new.self.bytes c.fence-2.new.outgoing.bytes c.swap.new.y.bytes
     (e.stands x.from x input j ended pace over) (λ s was. handed ∙ e.bytes x.from x input j ended pace over s was) (e.entry x.from x) (c.fence-2.ensures.entry x.to)
     (λ client. ap (λ (b : BurstView). b.bytes) (c.fence-2.ensures.kept client)) c.fence-2.ensures.stands now

@@ -11,8 +11,8 @@ invariant_of-self g c = record {
   sink = c.self.invariant.sink;
   source = c.fill_frame.ensures.slots c.self.inside.slots c.self.invariant.source;
   fit = c.self.invariant.fit;
-  came = c.self.invariant.came;
-  gives = c.self.invariant.gives;
+  incoming = c.self.invariant.incoming;
+  outgoing = c.self.invariant.outgoing;
 }
 
 pub returns-clause-put : goal.returns-clause-put
@@ -22,14 +22,14 @@ returns-clause-put g c = λ x b port slots input j frames ended e h.
 pub returns-clause-stands : goal.returns-clause-stands
 returns-clause-stands g c = λ x input j frames ended h.
     let i = c.self.inside in
-    let old : PipeView = record { taking = i.taking; giving = i.giving; paces = i.paces.items; start = i.start; slots = i.slots; came = i.came.bytes; gives = i.gives.bytes } in
+    let old : PipeView = record { taking = i.taking; giving = i.giving; paces = i.paces.items; start = i.start; slots = i.slots; incoming = i.incoming.bytes; outgoing = i.outgoing.bytes } in
     let now : PipeStands x input j frames ended c.args.n old = subst (PipeStands x input j frames ended c.args.n) (sym c.self.view_is) h in
     let to = c.fill_frame.ensures.entry x.to now.entry.giving in
     record {
-      entry = parts_of x old i.taking c.fill_frame.new.self i.came.bytes i.gives.bytes now.entry now.entry.taking to;
+      entry = parts_of x old i.taking c.fill_frame.new.self i.incoming.bytes i.outgoing.bytes now.entry now.entry.taking to;
       taking = now.taking;
-      came = now.came;
-      gives = λ client. now.gives (client_too x.to i.giving c.fill_frame.new.self now.entry.giving to client);
+      incoming = now.incoming;
+      outgoing = λ client. now.outgoing (client_too x.to i.giving c.fill_frame.new.self now.entry.giving to client);
       giving = filled_on x.to x input j c.args.n (c.args.n + 1) i.giving c.fill_frame.new.self c.fill_frame.ensures.stands to now.giving;
     }
 

@@ -10,8 +10,8 @@ invariant_of-self c = record {
   sink = c.start.ensures.slots c.self.inside.slots c.self.invariant.sink;
   source = c.start-2.ensures.slots c.self.inside.slots c.self.invariant.source;
   fit = c.self.invariant.fit;
-  came = ap (λ (b : BurstView). b.room) c.clear.ensures ∙ c.self.invariant.came;
-  gives = ap (λ (b : BurstView). b.room) c.clear-2.ensures ∙ c.self.invariant.gives;
+  incoming = ap (λ (b : BurstView). b.room) c.clear.ensures ∙ c.self.invariant.incoming;
+  outgoing = ap (λ (b : BurstView). b.room) c.clear-2.ensures ∙ c.self.invariant.outgoing;
 }
 
 pub returns-clause-client_in : goal.returns-clause-client_in

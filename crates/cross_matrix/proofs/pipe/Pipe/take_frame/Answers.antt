@@ -5,6 +5,6 @@ invariant_of-self g c = record {
   sink = c.take_frame.ensures.slots c.self.inside.slots c.self.invariant.sink;
   source = c.self.invariant.source;
   fit = c.self.invariant.fit;
-  came = c.self.invariant.came;
-  gives = c.self.invariant.gives;
+  incoming = c.self.invariant.incoming;
+  outgoing = c.self.invariant.outgoing;
 }

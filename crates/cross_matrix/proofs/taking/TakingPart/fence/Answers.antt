@@ -1,5 +1,5 @@
 use Rattle.std.proofs.Common.{◌≡◌, ◌+◌, ◌∙◌, suc, false, [], take, sym, ap, subst}
-use Rattle.maintenance_signals.specs.Given.{HasGiven}
+use Rattle.maintenance_signals.specs.Given.{HasEmitted}
 use Rattle.maintenance_signals.specs.Stream.{signal_bytes}
 use Rattle.odu_client.specs.ClientInput.{emitted_before}
 use Rattle.device_model.specs.Through.{emits_by}
@@ -11,7 +11,7 @@ use Rattle.cross_matrix.proofs.taking.TakingPart.fence.Goals as goal
 pub returns-in-Signal-clause-stands : goal.returns-in-Signal-clause-stands
 returns-in-Signal-clause-stands c = λ from x input j ended e over h.
     on_signal (λ from input. TakingStands from x input (suc j) [] false (taking.Signal c.next_front.new.stream)) from x input j [] ended c.in-Signal.stream
-    (λ signal s. subst (λ k. HasGiven signal k c.next_front.new.stream) (ap (λ k. emitted_before x.pace j + k) e ∙ sym (emitted_next x.pace j)) (c.next_front.ensures.emitted signal (emitted_before x.pace j) s))
+    (λ signal s. subst (λ k. HasEmitted signal k c.next_front.new.stream) (ap (λ k. emitted_before x.pace j + k) e ∙ sym (emitted_next x.pace j)) (c.next_front.ensures.emitted signal (emitted_before x.pace j) s))
     (subst (TakingStands from x input j [] ended) c.in-Signal.is h)
 
 pub returns-in-Signal-clause-bytes : goal.returns-in-Signal-clause-bytes

@@ -11,12 +11,12 @@ returns-in-Some c =
     let byte = c.args.byte ∷ [] in
     let goes = c.find_packet_at.ensures.goes in
     let size = c.in-Some.ensures.size in (
-      (refl, (λ _. tt), λ taken has. has_read_on taken byte old new _ has goes),
+      (refl, (λ _. tt), λ read has. has_read_on read byte old new _ has goes),
       record {
         read = tt;
-        packets = λ taken has.
-            delivered_on taken byte old new _ has goes
-            ∙ ap (λ y. delivered taken ++ y) (packet_lent new.area c.area.result.now c.find_packet_at.result c.in-Some.size c.in-Some.is c.area.ensures);
+        packets = λ read has.
+            delivered_on read byte old new _ has goes
+            ∙ ap (λ y. delivered read ++ y) (packet_lent new.area c.area.result.now c.find_packet_at.result c.in-Some.size c.in-Some.is c.area.ensures);
         size = lent_size new.area c.area.result.now c.in-Some.size MOST_DELIVERED c.area.ensures size.0 size.1 size.2;
       },
     )
@@ -27,10 +27,10 @@ returns-in-None c =
     let new = c.find_packet_at.new.self in
     let byte = c.args.byte ∷ [] in
     let goes = c.find_packet_at.ensures.goes in (
-      (refl, (λ _. tt), λ taken has. has_read_on taken byte old new _ has goes),
+      (refl, (λ _. tt), λ read has. has_read_on read byte old new _ has goes),
       record {
         read = tt;
-        packets = λ taken has. delivered_on taken byte old new _ has goes ∙ ap (λ y. delivered taken ++ y) (none_lent new.area c.find_packet_at.result c.in-None.is);
+        packets = λ read has. delivered_on read byte old new _ has goes ∙ ap (λ y. delivered read ++ y) (none_lent new.area c.find_packet_at.result c.in-None.is);
         size = tt;
       },
     )

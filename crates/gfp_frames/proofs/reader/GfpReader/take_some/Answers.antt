@@ -14,13 +14,13 @@ returns-in-Some c =
     let goes = c.find_packet-count.ensures.goes in
     let Q : Option ℕ → Type 0 = λ o. IfSome o (λ n. (1 ≤ n) × (n ≤ MOST_DELIVERED) × (n + 4 ≤ length new.area)) in
     let size = subst Q c.in-Some.is c.find_packet-count.ensures.size in (
-      (refl, (λ _. tt), λ taken has. has_read_on taken bytes old new _ has goes),
+      (refl, (λ _. tt), λ read has. has_read_on read bytes old new _ has goes),
       record {
         read = tt;
-        packets = λ taken has.
-            delivered_on taken bytes old new _ has goes
-            ∙ ap (λ y. delivered taken ++ y) (packet_lent new.area c.area.result.now found c.in-Some.size c.in-Some.is c.area.ensures);
-        none_before = λ taken k has h. none_delivered taken (take k c.args.bytes.now) old has (c.find_packet-count.ensures.before k h);
+        packets = λ read has.
+            delivered_on read bytes old new _ has goes
+            ∙ ap (λ y. delivered read ++ y) (packet_lent new.area c.area.result.now found c.in-Some.size c.in-Some.is c.area.ensures);
+        none_before = λ read k has h. none_delivered read (take k c.args.bytes.now) old has (c.find_packet-count.ensures.before k h);
         within = c.find_packet-count.ensures.within;
         all = λ e. c.find_packet-count.ensures.all (subst (λ o. IsNone o) (sym c.in-Some.is) e);
         some = c.find_packet-count.ensures.some;
@@ -35,11 +35,11 @@ returns-in-None c =
     let found = c.find_packet-count.result.1 in
     let bytes = take c.find_packet-count.result.0 c.args.bytes.now in
     let goes = c.find_packet-count.ensures.goes in (
-      (refl, (λ _. tt), λ taken has. has_read_on taken bytes old new _ has goes),
+      (refl, (λ _. tt), λ read has. has_read_on read bytes old new _ has goes),
       record {
         read = tt;
-        packets = λ taken has. delivered_on taken bytes old new _ has goes ∙ ap (λ y. delivered taken ++ y) (none_lent new.area found c.in-None.is);
-        none_before = λ taken k has h. none_delivered taken (take k c.args.bytes.now) old has (c.find_packet-count.ensures.before k h);
+        packets = λ read has. delivered_on read bytes old new _ has goes ∙ ap (λ y. delivered read ++ y) (none_lent new.area found c.in-None.is);
+        none_before = λ read k has h. none_delivered read (take k c.args.bytes.now) old has (c.find_packet-count.ensures.before k h);
         within = c.find_packet-count.ensures.within;
         all = λ e. c.find_packet-count.ensures.all (subst (λ o. IsNone o) (sym c.in-None.is) e);
         some = c.find_packet-count.ensures.some;

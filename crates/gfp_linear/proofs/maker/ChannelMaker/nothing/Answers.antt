@@ -5,9 +5,9 @@ use Rattle.gfp_linear.proofs.maker.ChannelMaker.nothing.Goals as goal
 
 pub returns-else-self-len : goal.returns-else-self-len
 returns-else-self-len c = record {
-  woven = λ cids at given woven.
+  woven = λ cids at emitted woven.
       let count = ap (λ (s : WeaverState). length s.cids) c.self.view_is in
       let asked = ap (λ (s : WeaverState). s.asked) c.self.view_is in
-      idle_woven cids at given c.args.self.now c.put_idle.new.self woven c.requires (omega (arith, c.if-self-len.false, c.len.ensures)) c.put_idle.ensures;
+      idle_woven cids at emitted c.args.self.now c.put_idle.new.self woven c.requires (omega (arith, c.if-self-len.false, c.len.ensures)) c.put_idle.ensures;
   round = λ none. absurd (idle_in_hand c.args.self.now c.put_idle.new.self c.put_idle.ensures none);
 }

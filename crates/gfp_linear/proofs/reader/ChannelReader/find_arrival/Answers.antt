@@ -19,7 +19,7 @@ returns-then-arrives-clause-read c =
     reads_with bytes c.args.self.now mid new at n areas c.loop-at.invariant.passed searched
 
 pub returns-then-arrives-clause-arrivals : goal.returns-then-arrives-clause-arrivals
-returns-then-arrives-clause-arrivals c = λ taken has.
+returns-then-arrives-clause-arrivals c = λ read has.
     let new = c.find_area-count.new.self in
     let areas = news c.find_area-count.result.1 new in
     let e = c.find_area-count.ensures in
@@ -28,8 +28,8 @@ returns-then-arrives-clause-arrivals c = λ taken has.
     let mid = c.loop-at.self-inside.reader in
     let n = c.find_area-count.result.0 in
     let searched : Searched (rest_from bytes at) mid n areas new = record { read = e.read; areas_are = e.areas; before = e.none_before; within = e.within } in
-    arrives_with bytes c.args.self.now mid new at n areas c.loop-at.invariant.passed searched taken has
-    ∙ ap (λ y. channel_arrivals taken ++ y) (lent_one c.find_area-count.result.1 new new.area (arrival_in new.area) c.if-found.true refl refl)
+    arrives_with bytes c.args.self.now mid new at n areas c.loop-at.invariant.passed searched read has
+    ∙ ap (λ y. channel_arrivals read ++ y) (lent_one c.find_area-count.result.1 new new.area (arrival_in new.area) c.if-found.true refl refl)
 
 pub returns-then-arrives-clause-none_before : goal.returns-then-arrives-clause-none_before
 returns-then-arrives-clause-none_before c =

@@ -15,9 +15,9 @@ returns-then-find_area c =
       (refl, (λ _. tt), reads_one c.args.byte c.find_area.result.0 c.args.self.now c.self.inside.reader new areas c.self.view_is searched some),
       record {
         read = tt;
-        arrivals = λ taken has.
-            arrives_one c.args.byte c.find_area.result.0 c.args.self.now c.self.inside.reader new areas c.self.view_is searched some taken has
-            ∙ ap (λ y. channel_arrivals taken ++ y) (lent_one c.find_area.result.1 new c.area.result.now (option_map seen c.arrival_of.result) c.if-find_area.true c.area.ensures c.arrival_of.ensures);
+        arrivals = λ read has.
+            arrives_one c.args.byte c.find_area.result.0 c.args.self.now c.self.inside.reader new areas c.self.view_is searched some read has
+            ∙ ap (λ y. channel_arrivals read ++ y) (lent_one c.find_area.result.1 new c.area.result.now (option_map seen c.arrival_of.result) c.if-find_area.true c.area.ensures c.arrival_of.ensures);
         size = sized seen c.arrival_of.result c.area.result.now c.arrival_of.ensures (let few = (e.size c.if-find_area.true).1 in let same = ap length c.area.ensures in omega arith);
       },
     )
@@ -32,9 +32,9 @@ returns-else-find_area c =
       (refl, (λ _. tt), reads_one c.args.byte c.find_area.result.0 c.args.self.now c.self.inside.reader new areas c.self.view_is searched some),
       record {
         read = tt;
-        arrivals = λ taken has.
-            arrives_one c.args.byte c.find_area.result.0 c.args.self.now c.self.inside.reader new areas c.self.view_is searched some taken has
-            ∙ ap (λ y. channel_arrivals taken ++ y) (lent_none c.find_area.result.1 new c.if-find_area.false);
+        arrivals = λ read has.
+            arrives_one c.args.byte c.find_area.result.0 c.args.self.now c.self.inside.reader new areas c.self.view_is searched some read has
+            ∙ ap (λ y. channel_arrivals read ++ y) (lent_none c.find_area.result.1 new c.if-find_area.false);
         size = tt;
       },
     )

@@ -6,16 +6,16 @@ use Rattle.line_side.proofs.Ended.{ended_is}
 use Rattle.line_side.proofs.line_in.LineIn.end_turn.Goals as goal
 
 pub returns-clause-stands : goal.returns-clause-stands
-returns-clause-stands g c = λ now form first taken t h. end_stands form first now taken t _ _ _ c.requires c.close.ensures h
+returns-clause-stands g c = λ now form first read t h. end_stands form first now read t _ _ _ c.requires c.close.ensures h
 
 pub returns-clause-ending : goal.returns-clause-ending
 returns-clause-ending g c = same_ending _ _ _ _ c.close.ensures
 
 pub returns-clause-turn : goal.returns-clause-turn
-returns-clause-turn g c = λ now form first taken t h given may.
-    let P : Ending → Type 0 = λ e. MayBe form.scrambled e taken given in
+returns-clause-turn g c = λ now form first read t h available may.
+    let P : Ending → Type 0 = λ e. MayBe form.scrambled e read available in
     let m = c.close.ensures in
     record {
-      has_multiframe = end_multiframe form first now taken given t _ _ _ c.requires m h may;
-      has_ended = ended_is form first now taken given _ _ m.pieces (end_stands form first now taken t _ _ _ c.requires m h) (subst P (sym (same_ending _ _ _ _ m)) may);
+      has_multiframe = end_multiframe form first now read available t _ _ _ c.requires m h may;
+      has_ended = ended_is form first now read available _ _ m.pieces (end_stands form first now read t _ _ _ c.requires m h) (subst P (sym (same_ending _ _ _ _ m)) may);
     }

@@ -14,4 +14,4 @@ pub returns-clause-left : goal.returns-clause-left
 returns-clause-left c = λ plan first last s.
     let lines : length c.args.self.now.lines_in ≡ 4 = rw (← c.self.view_is) c.self.invariant.lines_in in
     let outs : length c.args.self.now.lines_out ≡ 4 = rw (← c.self.view_is) c.self.invariant.lines_out in
-    (s.settled.takings, run_told plan first s.was last s.taken c.args.self.now c.args.outcome _ lines outs s.stands s.over s.settled s.asked (returns-clause-told c plan) refl)
+    (s.settled.takings, run_told plan first s.was last s.read c.args.self.now c.args.outcome _ lines outs s.stands s.over s.settled s.asked (returns-clause-told c plan) refl)

@@ -20,7 +20,7 @@ returns-in-LineIn-clause-only g c =
     rw c.in-LineIn.is (only_line_in_port c.in-LineIn.a old new (only_line_in g.P.Source g.K.Sink c.args.bays.now c.in-LineIn.a c.step_line_in.new.place))
 
 pub returns-in-LineIn-clause-stands : goal.returns-in-LineIn-clause-stands
-returns-in-LineIn-clause-stands g c = λ plan first taken h.
+returns-in-LineIn-clause-stands g c = λ plan first read h.
     let n = c.in-LineIn.a in
     let old = bays_view g.P.Source g.K.Sink c.args.bays.now in
     let new = bays_view g.P.Source g.K.Sink (with_line_in c.args.bays.now n c.step_line_in.new.place) in
@@ -28,7 +28,7 @@ returns-in-LineIn-clause-stands g c = λ plan first taken h.
     let was : line_in_at old n ≡ in_view g.P.Source c.line_in_mut.result.now = line_in_seen g.P.Source g.K.Sink c.args.bays.now n _ c.line_in_mut.ensures.value in
     let now : line_in_at new n ≡ in_view g.P.Source c.step_line_in.new.place = line_in_set g.P.Source g.K.Sink c.args.bays.now n _ c.step_line_in.new.place c.line_in_mut.ensures.value in
     let move : LineInMove n c.args.self.now (line_in_at old n) c.step_line_in.new.self (line_in_at new n) = rw (was, now) c.step_line_in.ensures in
-    line_in_moves plan first taken n c.args.self.now c.step_line_in.new.self old new ready move (only_line_in_port n old new (only_line_in g.P.Source g.K.Sink c.args.bays.now n c.step_line_in.new.place)) h
+    line_in_moves plan first read n c.args.self.now c.step_line_in.new.self old new ready move (only_line_in_port n old new (only_line_in g.P.Source g.K.Sink c.args.bays.now n c.step_line_in.new.place)) h
 
 pub returns-in-LineOut-clause-only : goal.returns-in-LineOut-clause-only
 returns-in-LineOut-clause-only g c =
@@ -37,7 +37,7 @@ returns-in-LineOut-clause-only g c =
     rw c.in-LineOut.is (only_line_out_port c.in-LineOut.b old new (only_line_out g.P.Source g.K.Sink c.args.bays.now c.in-LineOut.b c.step_line_out.new.place))
 
 pub returns-in-LineOut-clause-stands : goal.returns-in-LineOut-clause-stands
-returns-in-LineOut-clause-stands g c = λ plan first taken h.
+returns-in-LineOut-clause-stands g c = λ plan first read h.
     let n = c.in-LineOut.b in
     let old = bays_view g.P.Source g.K.Sink c.args.bays.now in
     let new = bays_view g.P.Source g.K.Sink (with_line_out c.args.bays.now n c.step_line_out.new.place) in
@@ -45,7 +45,7 @@ returns-in-LineOut-clause-stands g c = λ plan first taken h.
     let was : line_out_at old n ≡ out_view g.K.Sink c.line_out_mut.result.now = line_out_seen g.P.Source g.K.Sink c.args.bays.now n _ c.line_out_mut.ensures.value in
     let now : line_out_at new n ≡ out_view g.K.Sink c.step_line_out.new.place = line_out_set g.P.Source g.K.Sink c.args.bays.now n _ c.step_line_out.new.place c.line_out_mut.ensures.value in
     let move : LineOutMove n c.args.self.now (line_out_at old n) c.step_line_out.new.self (line_out_at new n) = rw (was, now) c.step_line_out.ensures in
-    line_out_moves plan first taken n c.args.self.now c.step_line_out.new.self old new ready move (only_line_out_port n old new (only_line_out g.P.Source g.K.Sink c.args.bays.now n c.step_line_out.new.place)) h
+    line_out_moves plan first read n c.args.self.now c.step_line_out.new.self old new ready move (only_line_out_port n old new (only_line_out g.P.Source g.K.Sink c.args.bays.now n c.step_line_out.new.place)) h
 
 pub returns-in-ClientIn-clause-only : goal.returns-in-ClientIn-clause-only
 returns-in-ClientIn-clause-only g c =
@@ -54,7 +54,7 @@ returns-in-ClientIn-clause-only g c =
     rw c.in-ClientIn.is (only_client_in_port c.in-ClientIn.n old new (only_client_in g.P.Source g.K.Sink c.args.bays.now c.in-ClientIn.n c.step_client_in.new.place))
 
 pub returns-in-ClientIn-clause-stands : goal.returns-in-ClientIn-clause-stands
-returns-in-ClientIn-clause-stands g c = λ plan first taken h.
+returns-in-ClientIn-clause-stands g c = λ plan first read h.
     let n = c.in-ClientIn.n in
     let old = bays_view g.P.Source g.K.Sink c.args.bays.now in
     let new = bays_view g.P.Source g.K.Sink (with_client_in c.args.bays.now n c.step_client_in.new.place) in
@@ -62,7 +62,7 @@ returns-in-ClientIn-clause-stands g c = λ plan first taken h.
     let was : client_in_at old n ≡ in_view g.P.Source c.client_in_mut.result.now = client_in_seen g.P.Source g.K.Sink c.args.bays.now n _ c.client_in_mut.ensures.value in
     let now : client_in_at new n ≡ in_view g.P.Source c.step_client_in.new.place = client_in_set g.P.Source g.K.Sink c.args.bays.now n _ c.step_client_in.new.place c.client_in_mut.ensures.value in
     let move : ClientInMove n c.args.self.now (client_in_at old n) c.step_client_in.new.self (client_in_at new n) = rw (was, now) c.step_client_in.ensures in
-    client_in_moves plan first taken n c.args.self.now c.step_client_in.new.self old new ready move (only_client_in_port n old new (only_client_in g.P.Source g.K.Sink c.args.bays.now n c.step_client_in.new.place)) h
+    client_in_moves plan first read n c.args.self.now c.step_client_in.new.self old new ready move (only_client_in_port n old new (only_client_in g.P.Source g.K.Sink c.args.bays.now n c.step_client_in.new.place)) h
 
 pub returns-in-ClientOut-clause-only : goal.returns-in-ClientOut-clause-only
 returns-in-ClientOut-clause-only g c =
@@ -71,7 +71,7 @@ returns-in-ClientOut-clause-only g c =
     rw c.in-ClientOut.is (only_client_out_port c.in-ClientOut.n old new (only_client_out g.P.Source g.K.Sink c.args.bays.now c.in-ClientOut.n c.step_client_out.new.place))
 
 pub returns-in-ClientOut-clause-stands : goal.returns-in-ClientOut-clause-stands
-returns-in-ClientOut-clause-stands g c = λ plan first taken h.
+returns-in-ClientOut-clause-stands g c = λ plan first read h.
     let n = c.in-ClientOut.n in
     let old = bays_view g.P.Source g.K.Sink c.args.bays.now in
     let new = bays_view g.P.Source g.K.Sink (with_client_out c.args.bays.now n c.step_client_out.new.place) in
@@ -79,4 +79,4 @@ returns-in-ClientOut-clause-stands g c = λ plan first taken h.
     let was : client_out_at old n ≡ out_view g.K.Sink c.client_out_mut.result.now = client_out_seen g.P.Source g.K.Sink c.args.bays.now n _ c.client_out_mut.ensures.value in
     let now : client_out_at new n ≡ out_view g.K.Sink c.step_client_out.new.place = client_out_set g.P.Source g.K.Sink c.args.bays.now n _ c.step_client_out.new.place c.client_out_mut.ensures.value in
     let move : ClientOutMove n c.args.self.now (client_out_at old n) c.step_client_out.new.self (client_out_at new n) = rw (was, now) c.step_client_out.ensures in
-    client_out_moves plan first taken n c.args.self.now c.step_client_out.new.self old new ready move (only_client_out_port n old new (only_client_out g.P.Source g.K.Sink c.args.bays.now n c.step_client_out.new.place)) h
+    client_out_moves plan first read n c.args.self.now c.step_client_out.new.self old new ready move (only_client_out_port n old new (only_client_out g.P.Source g.K.Sink c.args.bays.now n c.step_client_out.new.place)) h

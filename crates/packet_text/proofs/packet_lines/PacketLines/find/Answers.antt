@@ -6,25 +6,25 @@ use Rattle.packet_text.proofs.FindingLines.{find_line, find_last, find_long, fin
 use Rattle.packet_text.proofs.packet_lines.PacketLines.find.Goals as goal
 
 pub returns-in-Line-clause-finds : goal.returns-in-Line-clause-finds
-returns-in-Line-clause-finds g c = λ first taken packets h.
+returns-in-Line-clause-finds g c = λ first read packets h.
     let e = c.judge.ensures in
-    find_line _ first taken packets _ _ (cut_view c.next.new.self) _ _ (c.in-Line.ensures.cuts (λ e. cc)) (λ lines counts. e.judges lines (record { number = counts.number; empty = counts.empty })) (ap (λ (k : Cutter). (cut_view k).hand) e.cutter) (ap (λ (k : Cutter). k.ended) e.cutter) (near_hand _ _ _ c.in-Line.ensures.near) h
+    find_line _ first read packets _ _ (cut_view c.next.new.self) _ _ (c.in-Line.ensures.cuts (λ e. cc)) (λ lines counts. e.judges lines (record { number = counts.number; empty = counts.empty })) (ap (λ (k : Cutter). (cut_view k).hand) e.cutter) (ap (λ (k : Cutter). k.ended) e.cutter) (near_hand _ _ _ c.in-Line.ensures.near) h
 
 pub returns-in-Last-clause-finds : goal.returns-in-Last-clause-finds
-returns-in-Last-clause-finds g c = λ first taken packets h.
+returns-in-Last-clause-finds g c = λ first read packets h.
     let e = c.judge-in-Last.ensures in
-    find_last _ first taken packets _ _ (cut_view c.next.new.self) _ _ (c.in-Last.ensures.cuts (λ e. cc)) (λ lines counts. e.judges lines (record { number = counts.number; empty = counts.empty })) (ap (λ (k : Cutter). (cut_view k).hand) e.cutter) (ap (λ (k : Cutter). k.ended) e.cutter) (near_hand _ _ _ c.in-Last.ensures.near) h
+    find_last _ first read packets _ _ (cut_view c.next.new.self) _ _ (c.in-Last.ensures.cuts (λ e. cc)) (λ lines counts. e.judges lines (record { number = counts.number; empty = counts.empty })) (ap (λ (k : Cutter). (cut_view k).hand) e.cutter) (ap (λ (k : Cutter). k.ended) e.cutter) (near_hand _ _ _ c.in-Last.ensures.near) h
 
 pub returns-in-Long-clause-finds : goal.returns-in-Long-clause-finds
-returns-in-Long-clause-finds g c = λ first taken packets h.
+returns-in-Long-clause-finds g c = λ first read packets h.
     let e = c.too_long.ensures in
-    find_long _ first taken packets _ _ (cut_view c.next.new.self) _ _ (c.in-Long.ensures.cuts (λ e. cc)) e.result e.number (ap (λ (k : Cutter). k.ended) e.cutter) h
+    find_long _ first read packets _ _ (cut_view c.next.new.self) _ _ (c.in-Long.ensures.cuts (λ e. cc)) e.result e.number (ap (λ (k : Cutter). k.ended) e.cutter) h
 
 pub returns-in-End-clause-finds : goal.returns-in-End-clause-finds
-returns-in-End-clause-finds g c = λ first taken packets h. find_end first taken packets _ _ (cut_view c.next.new.self) _ _ (c.in-End.ensures.cuts (λ e. cc)) refl h
+returns-in-End-clause-finds g c = λ first read packets h. find_end first read packets _ _ (cut_view c.next.new.self) _ _ (c.in-End.ensures.cuts (λ e. cc)) refl h
 
 pub returns-in-Lost-clause-finds : goal.returns-in-Lost-clause-finds
-returns-in-Lost-clause-finds g c = λ first taken packets h. find_lost first taken packets _ _ (cut_view c.next.new.self) _ _ (c.in-Lost.ensures.lost refl) refl h
+returns-in-Lost-clause-finds g c = λ first read packets h. find_lost first read packets _ _ (cut_view c.next.new.self) _ _ (c.in-Lost.ensures.lost refl) refl h
 
 pub returns-in-Line-clause-alive : goal.returns-in-Line-clause-alive
 returns-in-Line-clause-alive g c = λ _. (c.in-Line.ensures.cuts (λ e. cc)).reads.alive

@@ -8,8 +8,8 @@ use Rattle.packet_text.proofs.packet_lines.PacketLines.take.Given as goal
 
 abbrev pub invariant-loop-found : goal.invariant-loop-found
 invariant-loop-found g l = record {
-  finds : (first : InView) (taken : List ℕ) (packets : List (List ℕ)) → Seeks first taken packets (lines_view l.fn.self) (in_view g.P.Source l.fn.place)
-      → Finds Empty first taken packets (lines_view l.fn.self) (lines_view l.self) (in_view g.P.Source l.place);
+  finds : (first : InView) (read : List ℕ) (packets : List (List ℕ)) → Seeks first read packets (lines_view l.fn.self) (in_view g.P.Source l.fn.place)
+      → Finds Empty first read packets (lines_view l.fn.self) (lines_view l.self) (in_view g.P.Source l.place);
   alive : (in_view g.P.Source l.place).state ≡ (in_view g.P.Source l.fn.place).state;
   kept : (lines_view l.self).packet ≡ (lines_view l.fn.self).packet;
   quiet : (lines_view l.fn.self).ended ≡ true → (l.place ≡ l.fn.place) × ((lines_view l.self).ended ≡ true);

@@ -1,14 +1,14 @@
 use Rattle.std.proofs.Common.{◌≡◌, ◌≤◌, ◌+◌, [], ◌∙◌, ap, sym, take, drop, length, arith, refl, append-nil}
 use Rattle.std.proofs.lemmas.List.{with_items_is}
 use Rattle.pcap_packets.specs.HeldBytes.{held}
-use Rattle.pcap_packets.proofs.Windows.{asked_held, asked_none, came_parts, before_came, length-came}
+use Rattle.pcap_packets.proofs.Windows.{asked_held, asked_none, came_parts, before_came, length-further}
 use Rattle.pcap_packets.proofs.held.Held.ask.Goals as goal
 
 pub returns-in-Ok-clause-more : goal.returns-in-Ok-clause-more
 returns-in-Ok-clause-more g c =
     let h = c.to_front.new.self in
     let ys = c.ask_behind.new.buffer in
-    let n = c.in-Ok.came in
+    let n = c.in-Ok.further in
     let size : length ys ≡ h.bytes.len = c.ask_behind.auto.buffer ∙ c.deref_mut.ensures.len in
     let bound : h.end + n ≤ length ys = omega (arith, c.in-Ok.ensures.bound, c.ask_behind.auto.buffer) in
     let front : take h.end ys ≡ take h.end h.bytes.items = c.ask_behind.ensures.front ∙ ap (take h.end) c.deref_mut.ensures.value in
@@ -18,7 +18,7 @@ pub returns-in-Ok-clause-bytes : goal.returns-in-Ok-clause-bytes
 returns-in-Ok-clause-bytes g c =
     let h = c.to_front.new.self in
     let ys = c.ask_behind.new.buffer in
-    let n = c.in-Ok.came in
+    let n = c.in-Ok.further in
     let size : length ys ≡ h.bytes.len = c.ask_behind.auto.buffer ∙ c.deref_mut.ensures.len in
     let bound : h.end + n ≤ length ys = omega (arith, c.in-Ok.ensures.bound, c.ask_behind.auto.buffer) in
     let front : take h.end ys ≡ take h.end h.bytes.items = c.ask_behind.ensures.front ∙ ap (take h.end) c.deref_mut.ensures.value in
@@ -28,11 +28,11 @@ pub returns-in-Ok-clause-size : goal.returns-in-Ok-clause-size
 returns-in-Ok-clause-size g c =
     let h = c.to_front.new.self in
     let ys = c.ask_behind.new.buffer in
-    let n = c.in-Ok.came in
+    let n = c.in-Ok.further in
     let size : length ys ≡ h.bytes.len = c.ask_behind.auto.buffer ∙ c.deref_mut.ensures.len in
     let bound : h.end + n ≤ length ys = omega (arith, c.in-Ok.ensures.bound, c.ask_behind.auto.buffer) in
     let front : take h.end ys ≡ take h.end h.bytes.items = c.ask_behind.ensures.front ∙ ap (take h.end) c.deref_mut.ensures.value in
-    length-came _ _ ys h.end n bound (asked_held c.args.self.now h _ ys n c.to_front.ensures.same (with_items_is h.bytes ys size) refl refl bound front)
+    length-further _ _ ys h.end n bound (asked_held c.args.self.now h _ ys n c.to_front.ensures.same (with_items_is h.bytes ys size) refl refl bound front)
 
 pub returns-in-Err-clause-none : goal.returns-in-Err-clause-none
 returns-in-Err-clause-none g c =

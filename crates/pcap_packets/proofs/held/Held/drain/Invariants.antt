@@ -5,7 +5,7 @@ use Rattle.pcap_packets.proofs.held.Held.drain.Given as goal
 
 abbrev pub invariant-loop-sink : goal.invariant-loop-sink
 invariant-loop-sink g l = record {
-  went : Went (held l.fn.self) (g.S.Sink.got l.fn.sink) (held l.self) (g.S.Sink.got l.sink);
+  written : Went (held l.fn.self) (g.S.Sink.got l.fn.sink) (held l.self) (g.S.Sink.got l.sink);
   well : g.S.Sink.faults l.sink ≡ g.S.Sink.faults l.fn.sink;
 }
 

@@ -13,5 +13,5 @@ invariant_of-self-2 g c =
 pub invariant_of-self : goal.invariant_of-self
 invariant_of-self g c =
     let old = c.args.self.now in
-    let went = c.drain.ensures.went in
-    record { front = old.front; few = old.few; digits = old.digits; even = λ some. old.even (let all : held old.rest ≢ [] = rw went.parts (some_behind went.went (held c.drain.new.self) some) in all) }
+    let written = c.drain.ensures.written in
+    record { front = old.front; few = old.few; digits = old.digits; even = λ some. old.even (let all : held old.rest ≢ [] = rw written.parts (some_behind written.written (held c.drain.new.self) some) in all) }

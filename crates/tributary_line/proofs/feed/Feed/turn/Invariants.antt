@@ -11,7 +11,7 @@ abbrev pub invariant-loop-n : goal.invariant-loop-n
 invariant-loop-n g l = record {
   begun : IsBegun l.n l.self.source;
   slots : l.self.source.slots ≡ l.initial.self.source.slots;
-  gained : (went : List ℕ) × Gained (out_view g.K.Sink l.fn.place) went (out_view g.K.Sink l.place);
+  gained : (written : List ℕ) × Gained (out_view g.K.Sink l.fn.place) written (out_view g.K.Sink l.place);
   stands : (own : Tributary) (first : OutView) (turns : List (List ℕ)) → FeedIn own first (out_view g.K.Sink l.fn.place) turns 0 l.initial.self
       → FeedIn own first (out_view g.K.Sink l.place) turns l.n l.self;
 }

@@ -8,7 +8,7 @@ loop-init g c = record {
   pieces = c.requires.between.pieces;
   step = c.requires.between.step;
   slots = refl;
-  moves = λ own first taken t h. moves_none own first (in_view g.I.Source c.args.place.now) taken t c.args.self.now h;
+  moves = λ own first read t h. moves_none own first (in_view g.I.Source c.args.place.now) read t c.args.self.now h;
 }
 
 pub loop-preserved : goal.loop-preserved
@@ -18,7 +18,7 @@ loop-preserved g c =
       pieces = piece.pieces ∙ ap (λ n. n + 1) c.loop.invariant.pieces;
       step = piece.step;
       slots = piece.slots ∙ c.loop.invariant.slots;
-      moves = λ own first taken t h.
-          moves_twice own first (in_view g.I.Source c.loop.place) (in_view g.I.Source c.take_piece-frames.new.place) taken t c.args.self.now c.loop.self c.take_piece-frames.new.self
-          (c.loop.invariant.moves own first taken t h) (λ stands. piece.moves own first (taken ++ (c.loop.invariant.moves own first taken t h).came) t stands);
+      moves = λ own first read t h.
+          moves_twice own first (in_view g.I.Source c.loop.place) (in_view g.I.Source c.take_piece-frames.new.place) read t c.args.self.now c.loop.self c.take_piece-frames.new.self
+          (c.loop.invariant.moves own first read t h) (λ stands. piece.moves own first (read ++ (c.loop.invariant.moves own first read t h).further) t stands);
     }

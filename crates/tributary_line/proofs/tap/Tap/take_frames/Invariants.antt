@@ -12,6 +12,6 @@ invariant-loop g l = record {
   pieces : l.self.line.pieces ≡ l.counter;
   step : IsInStep l.frames l.self;
   slots : l.self.sink.slots ≡ l.fn.self.sink.slots;
-  moves : (own : Tributary) (first : InView) (taken : List ℕ) (t : ℕ) → TapStands own first (in_view g.I.Source l.fn.place) taken t l.fn.self
-      → TapMoves own first (in_view g.I.Source l.place) taken t l.fn.self l.self;
+  moves : (own : Tributary) (first : InView) (read : List ℕ) (t : ℕ) → TapStands own first (in_view g.I.Source l.fn.place) read t l.fn.self
+      → TapMoves own first (in_view g.I.Source l.place) read t l.fn.self l.self;
 }

@@ -14,5 +14,5 @@ returns-clause-moves g c = rw (sym c.self.view_is) (λ own first bytes t h.
     let p = c.piece.ensures.stands plain_otu2 first bytes t h.line in
     piece_frame own first (in_view g.I.Source c.args.place.now) (in_view g.I.Source c.piece.new.place) bytes t c.expected.result (record { line = c.self.inside.line; sink = c.self.inside.sink }) c.piece.new.self c.take_frame.new.self
     c.piece.ensures.pieces (sym c.piece.ensures.has_frame ∙ c.if-not-piece.false) h p
-    (λ given may. c.expected.ensures.line (in_view g.I.Source c.piece.new.place) plain_otu2 first (bytes ++ p.came) t p.stands given may)
+    (λ available may. c.expected.ensures.line (in_view g.I.Source c.piece.new.place) plain_otu2 first (bytes ++ p.further) t p.stands available may)
     (λ past frames stands. rw c.frame.ensures.hand at c.take_frame.ensures.stands own past frames stands))
