@@ -30,19 +30,19 @@ too_long text long =
     rw no_room refl
 
 -- the answer to all that came is that to the whole text
-same_text : (text further : List ℕ) (left : Option (List ℕ)) (ended : Bool) → Some text ≡ before further left → HasEnded left ended ⊎ (length further ≡ most_read) → plan_of_text further ≡ plan_of_text text
-same_text text further None answered e all = absurd (cc)
-same_text text further (Some rest) answered e (inl ended) =
-    let whole : text ≡ further ++ rest = ap (λ t. unwrap_or t []) e in
+same_text : (text read : List ℕ) (left : Option (List ℕ)) (ended : Bool) → Some text ≡ before read left → HasEnded left ended ⊎ (length read ≡ most_read) → plan_of_text read ≡ plan_of_text text
+same_text text read None answered e all = absurd (cc)
+same_text text read (Some rest) answered e (inl ended) =
+    let whole : text ≡ read ++ rest = ap (λ t. unwrap_or t []) e in
     let none : rest ≡ [] = ended.nothing in
-    ap plan_of_text (sym (whole ∙ ap (λ xs. further ++ xs) none ∙ append-nil further))
-same_text text further (Some rest) answered e (inr long) =
-    let whole : text ≡ further ++ rest = ap (λ t. unwrap_or t []) e in
-    let size : length text ≡ length further + length rest = ap length whole ∙ length-append further rest in
-    same_table further text (too_long further (omega (arith, long)) ∙ sym (too_long text (omega (arith, long, size))))
+    ap plan_of_text (sym (whole ∙ ap (λ xs. read ++ xs) none ∙ append-nil read))
+same_text text read (Some rest) answered e (inr long) =
+    let whole : text ≡ read ++ rest = ap (λ t. unwrap_or t []) e in
+    let size : length text ≡ length read + length rest = ap length whole ∙ length-append read rest in
+    same_table read text (too_long read (omega (arith, long)) ∙ sym (too_long text (omega (arith, long, size))))
 
-pub same_plan : (text further : List ℕ) (has : SourceView) → Some text ≡ before further has.left → IsAll further has → plan_of_text further ≡ plan_of_text text
-same_plan text further has e all = same_text text further has.left has.ended e all
+pub same_plan : (text read : List ℕ) (has : SourceView) → Some text ≡ before read has.left → IsAll read has → plan_of_text read ≡ plan_of_text text
+same_plan text read has e all = same_text text read has.left has.ended e all
 
 -- by the whole text
 pub check_told : (answer : Status) (text : List ℕ) (has : SourceView) (had : SourceView) (old new : SinkView) → CheckRun had has old new answer → had.left ≡ Some text

@@ -90,11 +90,11 @@ fn write_msi<K: Sink>(report: &mut K, msi: &[(u8, u8)]) -> Written
 }
 
 // Writes the line of one MSI byte.
-fn write_msi_line<K: Sink>(report: &mut K, further: &(u8, u8)) -> Written
-    ensures { SinkWrites result (sink_view K.Sink report.old) (msi_line further.now) (sink_view K.Sink report.new) }
+fn write_msi_line<K: Sink>(report: &mut K, pair: &(u8, u8)) -> Written
+    ensures { SinkWrites result (sink_view K.Sink report.old) (msi_line pair.now) (sink_view K.Sink report.new) }
 {
     let mut line = ArrayString::new();
-    put_msi(&mut line, further.0, further.1);
+    put_msi(&mut line, pair.0, pair.1);
     write_whole(report, line.as_bytes())
 }
 

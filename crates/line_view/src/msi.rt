@@ -15,16 +15,11 @@ pub(crate) type MsiBytes = ArrayVec<(u8, u8), MOST_SLOTS>;
 
 /// Notes the MSI byte of a frame of a line of this kind, with its slot, where the MFAS that is expected of it is that
 /// of one.
-pub(crate) fn note_msi<F: TakeFrame>(
-    kind: LineKind,
-    frame: &F,
-    expected: u8,
-    further: &mut MsiBytes,
-)
-    requires room { length further.old.items < MOST_SLOTS }
-    ensures bytes { further.new.items ≡ further.old.items
+pub(crate) fn note_msi<F: TakeFrame>(kind: LineKind, frame: &F, expected: u8, msi: &mut MsiBytes)
+    requires room { length msi.old.items < MOST_SLOTS }
+    ensures bytes { msi.new.items ≡ msi.old.items
         ++ msi_at (range_with_len 1 (slots_of kind)) expected (F.bytes frame.now) }
-    ensures few { length further.new.items ≤ length further.old.items + 1 }
+    ensures few { length msi.new.items ≤ length msi.old.items + 1 }
 {
     if expected < 2 {
         return;
@@ -32,5 +27,5 @@ pub(crate) fn note_msi<F: TakeFrame>(
     if expected > kind.slots() + 1 {
         return;
     }
-    further.push((expected - 1, frame.psi()));
+    msi.push((expected - 1, frame.psi()));
 }

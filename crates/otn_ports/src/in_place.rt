@@ -57,8 +57,8 @@ impl<P: Source> InPlaceOf<P> {
         }
         let reading = match self {
             InPlaceOf::Live(port, number) => {
-                let (reading, further) = read_whole(port, into);
-                *number = number.saturating_add(further as u64);
+                let (reading, count) = read_whole(port, into);
+                *number = number.saturating_add(count as u64);
                 reading
             }
             InPlaceOf::Empty => return Reading::End(0),

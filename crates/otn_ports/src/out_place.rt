@@ -48,15 +48,15 @@ impl<K: Sink> OutPlaceOf<K> {
         if bytes.is_empty() {
             return Written::Whole;
         }
-        let answer = match self {
+        let ending = match self {
             OutPlaceOf::Live(port, number) => drain_counted(port, number, bytes),
             OutPlaceOf::Empty => return Written::Whole,
             OutPlaceOf::Dead(..) => return Written::Whole,
         };
-        if answer == Written::Lost {
+        if ending == Written::Lost {
             self.die();
         }
-        answer
+        ending
     }
 
     /// Writes lines, each with its LF at its end, and says how many bytes went: all lines at once to a file of the

@@ -210,9 +210,9 @@ impl Held {
     {
         self.to_front();
         match ask_behind(source, &mut self.bytes, self.end) {
-            Ok(further) => {
-                self.end += further;
-                Ok(further)
+            Ok(count) => {
+                self.end += count;
+                Ok(count)
             }
             Err(Failed) => Err(Failed),
         }

@@ -10,4 +10,4 @@ returns-clause-bytes g c =
     let high = c.if-expected-slots.false in
     let many = c.slots.ensures.slots in
     let one = msi_one 1 (slots_of c.args.kind) (c.args.expected - 1) c.args.expected (g.F.TakeFrame.bytes c.args.frame.now) (omega (arith, low)) (omega (arith, high, many)) (omega (arith, low)) in
-    c.push.ensures.items ∙ ap (λ b. c.args.further.now.items ++ (c.args.expected - 1, b) ∷ []) c.psi.ensures ∙ sym (ap (λ xs. c.args.further.now.items ++ xs) one)
+    c.push.ensures.items ∙ ap (λ b. c.args.msi.now.items ++ (c.args.expected - 1, b) ∷ []) c.psi.ensures ∙ sym (ap (λ xs. c.args.msi.now.items ++ xs) one)

@@ -7,8 +7,8 @@ use Rattle.otn_ports.proofs.out_place.OutPlaceOf.write_all.Goals as goal
 
 pub returns-then-eq-clause-sent : goal.returns-then-eq-clause-sent
 returns-then-eq-clause-sent g c =
-    let lost : c.drain_counted-answer.result ≡ Lost = search rules in
+    let lost : c.drain_counted-ending.result ≡ Lost = search rules in
     let was : out_view g.K.Sink c.args.self.now ≡ live_out g.K.Sink c.in-Live.port c.in-Live.number = ap (out_view g.K.Sink) c.in-Live.is in
-    let writes : Writes Lost (live_out g.K.Sink c.in-Live.port c.in-Live.number) c.args.bytes.now (live_out g.K.Sink c.drain_counted-answer.new.port c.drain_counted-answer.new.number) = rw lost at c.drain_counted-answer.ensures.writes in
+    let writes : Writes Lost (live_out g.K.Sink c.in-Live.port c.in-Live.number) c.args.bytes.now (live_out g.K.Sink c.drain_counted-ending.new.port c.drain_counted-ending.new.number) = rw lost at c.drain_counted-ending.ensures.writes in
     rw was
-    (lost_sent (live_out g.K.Sink c.in-Live.port c.in-Live.number) (live_out g.K.Sink c.drain_counted-answer.new.port c.drain_counted-answer.new.number) (out_view g.K.Sink c.die.new.self) c.args.bytes.now refl writes (c.die.ensures refl))
+    (lost_sent (live_out g.K.Sink c.in-Live.port c.in-Live.number) (live_out g.K.Sink c.drain_counted-ending.new.port c.drain_counted-ending.new.number) (out_view g.K.Sink c.die.new.self) c.args.bytes.now refl writes (c.die.ensures refl))

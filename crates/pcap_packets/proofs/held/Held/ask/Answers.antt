@@ -8,7 +8,7 @@ pub returns-in-Ok-clause-more : goal.returns-in-Ok-clause-more
 returns-in-Ok-clause-more g c =
     let h = c.to_front.new.self in
     let ys = c.ask_behind.new.buffer in
-    let n = c.in-Ok.further in
+    let n = c.in-Ok.count in
     let size : length ys ≡ h.bytes.len = c.ask_behind.auto.buffer ∙ c.deref_mut.ensures.len in
     let bound : h.end + n ≤ length ys = omega (arith, c.in-Ok.ensures.bound, c.ask_behind.auto.buffer) in
     let front : take h.end ys ≡ take h.end h.bytes.items = c.ask_behind.ensures.front ∙ ap (take h.end) c.deref_mut.ensures.value in
@@ -18,7 +18,7 @@ pub returns-in-Ok-clause-bytes : goal.returns-in-Ok-clause-bytes
 returns-in-Ok-clause-bytes g c =
     let h = c.to_front.new.self in
     let ys = c.ask_behind.new.buffer in
-    let n = c.in-Ok.further in
+    let n = c.in-Ok.count in
     let size : length ys ≡ h.bytes.len = c.ask_behind.auto.buffer ∙ c.deref_mut.ensures.len in
     let bound : h.end + n ≤ length ys = omega (arith, c.in-Ok.ensures.bound, c.ask_behind.auto.buffer) in
     let front : take h.end ys ≡ take h.end h.bytes.items = c.ask_behind.ensures.front ∙ ap (take h.end) c.deref_mut.ensures.value in
@@ -28,7 +28,7 @@ pub returns-in-Ok-clause-size : goal.returns-in-Ok-clause-size
 returns-in-Ok-clause-size g c =
     let h = c.to_front.new.self in
     let ys = c.ask_behind.new.buffer in
-    let n = c.in-Ok.further in
+    let n = c.in-Ok.count in
     let size : length ys ≡ h.bytes.len = c.ask_behind.auto.buffer ∙ c.deref_mut.ensures.len in
     let bound : h.end + n ≤ length ys = omega (arith, c.in-Ok.ensures.bound, c.ask_behind.auto.buffer) in
     let front : take h.end ys ≡ take h.end h.bytes.items = c.ask_behind.ensures.front ∙ ap (take h.end) c.deref_mut.ensures.value in
