@@ -72,13 +72,13 @@ pub arrives_with : (bytes : List ℕ) (old mid new : ReaderState) (at n : ℕ) (
 arrives_with bytes old mid new at n areas first second read has =
     let early = read ++ take at bytes in
     ap channel_arrivals (sym (joins read bytes at n))
-    ∙ arrived_on early (early ++ take n (rest_from bytes at)) areas (second.areas_are early (first.read read has))
+    ∙ arrived_on early (early ++ take n (rest_from bytes at)) areas (second.areas_are early (first.has_read read has))
     ∙ ap (λ y. y ++ arrivals_in areas) (first.none read has)
 
 pub reads_with : (bytes : List ℕ) (old mid new : ReaderState) (at n : ℕ) (areas : List (List ℕ)) → Passed bytes old at mid → Searched (rest_from bytes at) mid n areas new
     → (read : List ℕ) → HasRead read old → HasRead (read ++ take (at + n) bytes) new
 reads_with bytes old mid new at n areas first second read has =
-    subst (λ y. HasRead y new) (joins read bytes at n) (second.read (read ++ take at bytes) (first.read read has))
+    subst (λ y. HasRead y new) (joins read bytes at n) (second.has_read (read ++ take at bytes) (first.has_read read has))
 
 pub before_with : (bytes : List ℕ) (old mid new : ReaderState) (at n : ℕ) (areas : List (List ℕ)) → Passed bytes old at mid → Searched (rest_from bytes at) mid n areas new
     → (read : List ℕ) (k : ℕ) → HasRead read old → k < at + n → channel_arrivals (read ++ take k bytes) ≡ channel_arrivals read
@@ -90,7 +90,7 @@ before_with bytes old mid new at n areas first second read k has h = elim (cases
       let sum : k ≡ at + j = omega arith in
       ap (λ i. channel_arrivals (read ++ take i bytes)) sum
       ∙ ap channel_arrivals (sym (joins read bytes at j))
-      ∙ none_arrived early (early ++ take j (rest_from bytes at)) (second.before early j (first.read read has) (omega arith))
+      ∙ none_arrived early (early ++ take j (rest_from bytes at)) (second.before early j (first.has_read read has) (omega arith))
       ∙ first.none read has
 ]
 
@@ -115,7 +115,7 @@ reads_one byte n old inner new areas same h some read has =
     let one = searched_one byte n inner new areas h some in
     let P : ℕ → Type 0 = λ i. HasRead (read ++ take i (byte ∷ [])) new in
     let Q : ReaderState → Type 0 = λ s. HasRead read s in
-    subst P one (h.read read (subst Q (sym same) has))
+    subst P one (h.has_read read (subst Q (sym same) has))
 
 pub arrives_one : (byte n : ℕ) (old inner new : ReaderState) (areas : List (List ℕ)) → inner ≡ old → Searched (byte ∷ []) inner n areas new → 1 ≤ n → (read : List ℕ) → HasRead read old
     → channel_arrivals (read ++ byte ∷ []) ≡ channel_arrivals read ++ arrivals_in areas

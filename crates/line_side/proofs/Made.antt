@@ -177,9 +177,9 @@ counts_more counts first was is made due sent frame one_more w gained size one w
     idle : (s : State) → first.state ≡ s → s ≢ Empty → was.state ≡ Dead → Counts
     idle Empty e other d = absurd (other refl)
     idle Live e other d = let n = ap length (w.gained.idle (λ l. dead_not_live (sym d ∙ l))).1 in
-        rw (e, w.dead d) (let m : length (sent ++ w.written) ≡ length written = omega (arith, all, n) in omega (arith, m))
+        rw (e, w.dead d) (let m : length (sent ++ w.written) ≡ length sent = omega (arith, all, n) in omega (arith, m))
     idle Dead e other d = let n = ap length (w.gained.idle (λ l. dead_not_live (sym d ∙ l))).1 in
-        rw (e, w.dead d) (let m : length (sent ++ w.written) ≡ length written = omega (arith, all, n) in omega (arith, m))
+        rw (e, w.dead d) (let m : length (sent ++ w.written) ≡ length sent = omega (arith, all, n) in omega (arith, m))
 
     cut : first.state ≡ Live → was.state ≡ Live → is.state ≢ Live → Counts
     cut e d f =

@@ -239,7 +239,7 @@ look_short reading old was is frame new e opened other f same = let closed = clo
       let kept = with_reading_ahead reading old in
       let after = rest_after reading (through_mask old.scrambled (read ++ (f.further ++ may.rest))) f.further old zero other (λ k q. (f.end k q).0) here.2 in
       let none_more = short_read old.scrambled read f.further may.rest u w old (with_reading reading old) h e opened short.0 none (kept.0 ∙ e) closed kept.1 after kept.3 in
-      record { read = read.0; frame = λ t. absurd (cc); none = λ _. (read.1, kept.0 ∙ e) }) h;
+      record { read = none_more.0; frame = λ t. absurd (cc); none = λ _. (none_more.1, kept.0 ∙ e) }) h;
 })
 
 pub look_whole : (reading : Reading) (old : ReaderView) (was is : InView) (frame : List ℕ) (new : ReaderView) → old.ahead ≡ None → old.ending ≡ Open → reading ≡ Full → FrameRead old.scrambled reading was frame is

@@ -59,7 +59,7 @@ view_begins form line shown watched pieces untaken kind stands new on first = re
       let n = k.1.1 in
       record {
         kind = n.kind ∙ (on i k.0 k.1.0).kind_is ∙ sym kind;
-        read = n.read ∙ sym (ap (taken_by (begun one 0)) untaken ∙ zero_by (begun one 0));
+        taken = n.taken ∙ sym (ap (taken_by (begun one 0)) untaken ∙ zero_by (begun one 0));
         port = n.port;
       };
   sinks = λ available may i one at.

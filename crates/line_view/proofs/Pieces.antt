@@ -45,14 +45,14 @@ one_frame : (size : ℕ) (available frame : List ℕ) (t k expected : ℕ) → i
 one_frame size available frame t k expected some hand number =
     by_hand (in_hand size (mfas_of available) (line_state size (mfas_of available) t) (k + 1)) some hand number ∙ sym (frames_more size available t k)
   where
-    taken : List ℕ → ℕ → Taken
-    read f e = record { frame = f; expected = e }
+    of_frame : List ℕ → ℕ → Taken
+    of_frame f e = record { frame = f; expected = e }
 
     by_hand : (member : Option Lock) → is_some member ≡ true → IfSome member (λ m. frame ≡ frame_at available m.frame) → IfSome member (λ m. expected ≡ m.expected)
-        → frames_in size available t k ++ read frame expected ∷ [] ≡ frames_in size available t k ++ member_of available member
+        → frames_in size available t k ++ of_frame frame expected ∷ [] ≡ frames_in size available t k ++ member_of available member
     by_hand None e h n = absurd (cc)
     by_hand (Some lock) e h n =
-        let same : read frame expected ≡ read (frame_at available lock.frame) lock.expected = ap (λ f. read f expected) h ∙ ap (read (frame_at available lock.frame)) n in
+        let same : of_frame frame expected ≡ of_frame (frame_at available lock.frame) lock.expected = ap (λ f. of_frame f expected) h ∙ ap (of_frame (frame_at available lock.frame)) n in
         ap (λ x. frames_in size available t k ++ x ∷ []) same
 
 -- after a piece that has no frame in hand no sink has taken more
@@ -69,7 +69,7 @@ piece_none form first was now read t old new watched msi pieces none kind count 
       further = p.further;
       stands = record {
         line_is = p.stands;
-        step = λ i one at. let s = h.step i one at in record { kind = s.kind ∙ sym kind; read = s.read ∙ ap (taken_by (begun one t)) (sym count); port = s.port };
+        step = λ i one at. let s = h.step i one at in record { kind = s.kind ∙ sym kind; taken = s.taken ∙ ap (taken_by (begun one t)) (sym count); port = s.port };
         sinks = λ available may i one at.
             subst (λ xs. StandsAfter (own_of one) (views_from (own_of one) one.first available t) (frames_by (begun one t) xs) one.sink) (sym (same available may)) (h.sinks available (p.earlier available may) i one at);
         msi_is = λ available may. h.msi_is available (p.earlier available may) ∙ ap (flat_map (msi_in (all_slots form))) (sym (same available may));
@@ -83,7 +83,7 @@ frame_step : (old new : LineView) (t : ℕ) (frame : Taken) (one two : Watched) 
     → new.kind ≡ old.kind → frames_taken new ≡ frames_taken old + 1 → frames_taken old < slots_of old.kind → IsInStep new t two
 frame_step old new t frame one two b on took s kind count few = record {
   kind = ap (λ (x : LineSlots). x.kind) took.same.slots ∙ s.kind ∙ sym kind;
-  read = by_turn b on;
+  taken = by_turn b on;
   port = took.same.port ∙ s.port ∙ sym took.same.sink_port;
 }
   where
@@ -92,17 +92,17 @@ frame_step old new t frame one two b on took s kind count few = record {
 
     by_turn : (b : Bool) → begun one t ≡ b → two.sink.taken ≡ taken_by (begun two t) (frames_taken new)
     by_turn true on =
-        let had : one.sink.taken ≡ frames_taken old = s.read ∙ ap (λ b. taken_by b (frames_taken old)) on in
+        let had : one.sink.taken ≡ frames_taken old = s.taken ∙ ap (λ b. taken_by b (frames_taken old)) on in
         let room = subst (λ n. n < slots_of one.sink.slots.kind) (sym had) (subst (λ k. frames_taken old < slots_of k) (sym s.kind) few) in
         took.count on room ∙ ap (λ n. n + 1) had ∙ sym count ∙ sym (ap (λ b. taken_by b (frames_taken new)) (same_turn ∙ on))
     by_turn false on =
-        ap (λ (x : Sink). x.read) (took.waits on) ∙ s.read ∙ ap (λ b. taken_by b (frames_taken old)) on ∙ sym (ap (λ b. taken_by b (frames_taken new)) (same_turn ∙ on))
+        ap (λ (x : Sink). x.taken) (took.waits on) ∙ s.taken ∙ ap (λ b. taken_by b (frames_taken old)) on ∙ sym (ap (λ b. taken_by b (frames_taken new)) (same_turn ∙ on))
 
 -- it has seen one frame more, or waits
 frame_seen : (form : LineForm) (available : List ℕ) (t k m : ℕ) (line : LineView) (frame : Taken) (one two : Watched) (b : Bool) → begun one t ≡ b → TookFrame t frame one two → IsInStep line t one
     → frames_taken line < slots_of line.kind → frames_in (size_of form) available t k ++ frame ∷ [] ≡ frames_in (size_of form) available t m → HasSeen form available t k one → HasSeen form available t m two
 frame_seen form available t k m line frame one two true on took s few frames h =
-    let had : one.sink.taken ≡ frames_taken line = s.read ∙ ap (λ b. taken_by b (frames_taken line)) on in
+    let had : one.sink.taken ≡ frames_taken line = s.taken ∙ ap (λ b. taken_by b (frames_taken line)) on in
     let room = subst (λ n. n < slots_of one.sink.slots.kind) (sym had) (subst (λ k. frames_taken line < slots_of k) (sym s.kind) few) in
     let views = views_from (own_of one) one.first available t in
     let before = subst (λ b. StandsAfter (own_of one) views (frames_by b (frames_in (size_of form) available t k)) one.sink) on h in

@@ -63,13 +63,13 @@ end_step : (mid new : LineView) (t : ℕ) (whole : Bool) (one two : Watched) (b 
     → new.kind ≡ mid.kind → frames_taken new ≡ 0 → IsInStep new (t + 1) two
 end_step mid new t whole one two b on e s kind untaken = record {
   kind = ap (λ (x : LineSlots). x.kind) e.same.slots ∙ s.kind ∙ sym kind;
-  read = none b on ∙ sym (ap (taken_by (begun two (t + 1))) untaken ∙ zero_by (begun two (t + 1)));
+  taken = none b on ∙ sym (ap (taken_by (begun two (t + 1))) untaken ∙ zero_by (begun two (t + 1)));
   port = e.same.port ∙ s.port ∙ sym e.same.sink_port;
 }
   where
     none : (b : Bool) → begun one t ≡ b → two.sink.taken ≡ 0
     none true on = e.count on
-    none false on = ap (λ (x : Sink). x.read) (e.waits on) ∙ s.read ∙ ap (λ b. taken_by b (frames_taken mid)) on
+    none false on = ap (λ (x : Sink). x.taken) (e.waits on) ∙ s.taken ∙ ap (λ b. taken_by b (frames_taken mid)) on
 
 -- it has seen one turn more, or waits
 end_seen : (form : LineForm) (available : List ℕ) (t k : ℕ) (whole : Bool) (one two : Watched) (b : Bool) → begun one t ≡ b → EndedTurn t whole one two
@@ -118,7 +118,7 @@ turn_ends form first now read t old mid new olds mids news msi kept whole seen m
     let many : mid.pieces ≡ size = pieces ∙ ap slots_of form_kind in
     let wide : (one : Watched) → IsInStep mid t one → (own_of one).line_slots ≡ size = λ one s. ap slots_of (s.kind ∙ form_kind) in
     let has_all : (one : Watched) → begun one t ≡ true → IsInStep mid t one → IsTrue whole → one.sink.taken ≡ slots_of one.sink.slots.kind
-    = λ one on s yes. s.read ∙ ap (λ b. taken_by b (frames_taken mid)) on ∙ all yes ∙ ap slots_of (sym s.kind) in
+    = λ one on s yes. s.taken ∙ ap (λ b. taken_by b (frames_taken mid)) on ∙ all yes ∙ ap slots_of (sym s.kind) in
     let took : (available : List ℕ) → MayBe form.scrambled mid.reader.ending (read ++ m.further) available → (i : ℕ) (one : Watched) → slice_get mids i ≡ Some one → HasSeen form available t size one
     = λ available may i one at. subst (λ k. HasSeen form available t k one) many (m.stands.sinks available may i one at) in
     let view : (available : List ℕ) → MayBe form.scrambled mid.reader.ending (read ++ m.further) available → (one : Watched) → IsInStep mid t one

@@ -162,7 +162,7 @@ impl LineRecord {
         match self.rest.drain(sink) {
             Ok(()) => (Written::Whole, count),
             Err(Failed) => {
-                let written = size - self.rest.bytes().len();
+                let sent = size - self.rest.bytes().len();
                 (Written::Lost, self.stop(&lines[..count], sent))
             }
         }

@@ -253,14 +253,14 @@ pub one_more : (own : Tributary) (n t : ℕ) (first was is : Ends) (old new : Pr
     → ((working protection : List ℕ) → Stands own n first was working protection t old → TurnGone written.Whole own n first is working protection t new)
     → TurnsGone own n first was t old → TurnsGone own n first is (t + 1) new
 one_more own n t first was is old new turn gone =
-    let written = turn gone.working gone.protection gone.stands in
+    let sent = turn gone.working gone.protection gone.stands in
     rw (add-one t) (record { working = gone.working ++ sent.working_read; protection = gone.protection ++ sent.protection_read; stands = sent.left })
 
 pub one_lost : (own : Tributary) (turns n t : ℕ) (first was is : Ends) (old new : Protecting) → AreReady new → t < turns
     → ((working protection : List ℕ) → Stands own n first was working protection t old → TurnGone written.Lost own n first is working protection t new)
     → TurnsGone own n first was t old → ProtectRan own turns n first is ReportFault
 one_lost own turns n t first was is old new ready less turn gone =
-    let written = turn gone.working gone.protection gone.stands in
+    let sent = turn gone.working gone.protection gone.stands in
     stopped_at own turns n t first is (gone.working ++ sent.working_read) (gone.protection ++ sent.protection_read) new ready less sent.left
 
 -- ---- the other places

@@ -172,7 +172,7 @@ all_gone world x b number past n row column slots sent is has place l lived =
     let size = ap (λ s. s * past + n) same in
     let f = slots_of slots.kind * past + n in
     let inner : place_of 4080 row column < 16320 = inside (tributary_of slots number) n (f % 256) row column place.own in
-    let less : f < whole_frames written = omega arith in
+    let less : f < whole_frames sent = omega arith in
     frame_gone f (place_of 4080 row column) (length sent) less inner
 
 -- ---- both
@@ -249,8 +249,8 @@ same_places one other x first second share b number past n row column slots plac
 
 -- ---- numbers
 
-same_output : {was is : State} {arrived others sent sent : List ℕ} → was ≡ is → arrived ≡ others → sent ≡ sent → output_numbers was arrived sent ≡ output_numbers is others sent
-same_output {was} {is} {arrived} {others} {sent} {sent} a b c =
+same_output : {was is : State} {arrived others sent sent' : List ℕ} → was ≡ is → arrived ≡ others → sent ≡ sent' → output_numbers was arrived sent ≡ output_numbers is others sent'
+same_output {was} {is} {arrived} {others} {sent} {sent'} a b c =
     ap (λ s. output_numbers s arrived sent) a ∙ ap (λ l. output_numbers is l sent) b ∙ ap (output_numbers is others) c
 
 same_client_in : (one other : World) (x : Connection) (first : IsWorld one) (second : IsWorld other) → CarryAlike one other x → (n : ℕ) → x.from ≡ from_end.Client n → one.numbers.client_in n ≡ other.numbers.client_in n
@@ -270,7 +270,7 @@ same_client_out one other x first second share n to lived =
     let b = (second.left.of_inputs other.inputs second.may_be).numbers_are.client_out x n share.second to in
     let same = share.alike.arrived (x.stop - first_turn x) (own_all one x first share.first) in
     let arrived = arrived_in one x first share.first ∙ same ∙ sym (arrived_in other x second share.second) in
-    let written = same_whole one other x first second share n to lived in
+    let sent = same_whole one other x first second share n to lived in
     let state : (client_out_at one.first n).state ≡ (client_out_at other.first n).state = lived.first.was ∙ sym lived.second.was in
     a ∙ same_output state arrived sent ∙ sym b
 

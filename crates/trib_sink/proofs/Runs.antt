@@ -10,8 +10,8 @@ use Rattle.trib_sink.specs.Steps.Rows.{row_data}
 use Rattle.trib_sink.proofs.Rows.{row_data-more}
 
 -- a data group gives its bytes
-given : (c j : ℕ) (xs : List ℕ) → IsData c j → cond (is_data_at c j) xs [] ≡ xs
-given c j xs h = grind (arith, nat_tests)
+emitted : (c j : ℕ) (xs : List ℕ) → IsData c j → cond (is_data_at c j) xs [] ≡ xs
+emitted c j xs h = grind (arith, nat_tests)
 
 -- behind the bytes of some cycles stand those of a run of data cycles
 pub row_data-run : (line c before : ℕ) (payload slots : List ℕ) (x run : ℕ) → ((i : ℕ) → i < run → IsData c (before + x + i + 1))
@@ -24,7 +24,7 @@ row_data-run line c before payload slots x (suc n) h =
     let here : IsData c (before + (x + n) + 1) = subst (IsData c) (let e : before + x + n + 1 ≡ before + (x + n) + 1 = omega arith in e) (h n (omega arith)) in
     ap row (let e : x + suc n ≡ x + n + 1 = omega arith in e)
     ∙ row_data-more line c before payload slots (x + n)
-    ∙ ap (λ ys. row (x + n) ++ ys) (given c (before + (x + n) + 1) (group (x + n)) here)
+    ∙ ap (λ ys. row (x + n) ++ ys) (emitted c (before + (x + n) + 1) (group (x + n)) here)
     ∙ ap (λ ys. ys ++ group (x + n)) (row_data-run line c before payload slots x n (λ i l. h i (omega arith)))
     ∙ append_assoc (row x) (run_groups line payload slots x n) (group (x + n))
     ∙ ap (λ ys. row x ++ ys) (sym (run_groups-more line payload slots x n) ∙ ap (run_groups line payload slots x) (let e : n + 1 ≡ suc n = omega arith in e))

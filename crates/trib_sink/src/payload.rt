@@ -227,7 +227,7 @@ impl Payload {
         } }
         ensures bytes { (signal : Signal) (emitted : ℕ) → HasEmitted signal emitted stream.old
             → self.new.emitted ≡ signal_bytes signal emitted (self.old.slots * NOMINAL) }
-        ensures given { (signal : Signal) (emitted : ℕ) → HasEmitted signal emitted stream.old
+        ensures emitted { (signal : Signal) (emitted : ℕ) → HasEmitted signal emitted stream.old
             → HasEmitted signal (emitted + self.old.slots * NOMINAL) stream.new }
         ensures most { length self.new.emitted ≤ self.old.slots * NOMINAL }
     {
@@ -291,7 +291,7 @@ fn next_front(stream: &mut SignalBytes, into: &mut [u8], count: usize)
     requires { count ≤ length into.old }
     ensures bytes { (signal : Signal) (emitted : ℕ) → HasEmitted signal emitted stream.old
         → take count into.new ≡ signal_bytes signal emitted count }
-    ensures given { (signal : Signal) (emitted : ℕ) → HasEmitted signal emitted stream.old
+    ensures emitted { (signal : Signal) (emitted : ℕ) → HasEmitted signal emitted stream.old
         → HasEmitted signal (emitted + count) stream.new }
     ensures size { length into.new ≡ length into.old }
 {

@@ -37,14 +37,14 @@ one_frame : (available frame : List ℕ) (t k expected : ℕ) → is_some (in_ha
 one_frame available frame t k expected some hand number =
     by_hand (in_hand 8 (mfas_of available) (line_state 8 (mfas_of available) t) (k + 1)) some hand number ∙ sym (frames_more available t k)
   where
-    taken : List ℕ → ℕ → Taken
-    read f e = record { frame = f; expected = e }
+    of_frame : List ℕ → ℕ → Taken
+    of_frame f e = record { frame = f; expected = e }
 
     by_hand : (member : Option Lock) → is_some member ≡ true → IfSome member (λ m. frame ≡ frame_at available m.frame) → IfSome member (λ m. expected ≡ m.expected)
-        → frames_in 8 available t k ++ read frame expected ∷ [] ≡ frames_in 8 available t k ++ member_of available member
+        → frames_in 8 available t k ++ of_frame frame expected ∷ [] ≡ frames_in 8 available t k ++ member_of available member
     by_hand None e h n = absurd (cc)
     by_hand (Some lock) e h n =
-        let same : read frame expected ≡ read (frame_at available lock.frame) lock.expected = ap (λ f. read f expected) h ∙ ap (read (frame_at available lock.frame)) n in
+        let same : of_frame frame expected ≡ of_frame (frame_at available lock.frame) lock.expected = ap (λ f. of_frame f expected) h ∙ ap (of_frame (frame_at available lock.frame)) n in
         ap (λ x. frames_in 8 available t k ++ x ∷ []) same
 
 -- after a piece that has no frame in hand the sink has taken no more

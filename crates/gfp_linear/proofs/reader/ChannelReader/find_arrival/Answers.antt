@@ -15,7 +15,7 @@ returns-then-arrives-clause-read c =
     let at = c.loop-at.at in
     let mid = c.loop-at.self-inside.reader in
     let n = c.find_area-count.result.0 in
-    let searched : Searched (rest_from bytes at) mid n areas new = record { read = e.read; areas_are = e.areas; before = e.none_before; within = e.within } in
+    let searched : Searched (rest_from bytes at) mid n areas new = record { has_read = e.read; areas_are = e.areas; before = e.none_before; within = e.within } in
     reads_with bytes c.args.self.now mid new at n areas c.loop-at.invariant.passed searched
 
 pub returns-then-arrives-clause-arrivals : goal.returns-then-arrives-clause-arrivals
@@ -27,7 +27,7 @@ returns-then-arrives-clause-arrivals c = λ read has.
     let at = c.loop-at.at in
     let mid = c.loop-at.self-inside.reader in
     let n = c.find_area-count.result.0 in
-    let searched : Searched (rest_from bytes at) mid n areas new = record { read = e.read; areas_are = e.areas; before = e.none_before; within = e.within } in
+    let searched : Searched (rest_from bytes at) mid n areas new = record { has_read = e.read; areas_are = e.areas; before = e.none_before; within = e.within } in
     arrives_with bytes c.args.self.now mid new at n areas c.loop-at.invariant.passed searched read has
     ∙ ap (λ y. channel_arrivals read ++ y) (lent_one c.find_area-count.result.1 new new.area (arrival_in new.area) c.if-found.true refl refl)
 
@@ -40,7 +40,7 @@ returns-then-arrives-clause-none_before c =
     let at = c.loop-at.at in
     let mid = c.loop-at.self-inside.reader in
     let n = c.find_area-count.result.0 in
-    let searched : Searched (rest_from bytes at) mid n areas new = record { read = e.read; areas_are = e.areas; before = e.none_before; within = e.within } in
+    let searched : Searched (rest_from bytes at) mid n areas new = record { has_read = e.read; areas_are = e.areas; before = e.none_before; within = e.within } in
     before_with bytes c.args.self.now mid new at n areas c.loop-at.invariant.passed searched
 
 pub returns-then-arrives-clause-size : goal.returns-then-arrives-clause-size
@@ -55,7 +55,7 @@ loop-at-preserved c =
     let at = c.loop-at.at in
     let mid = c.loop-at.self-inside.reader in
     let n = c.find_area-count.result.0 in
-    let searched : Searched (rest_from bytes at) mid n areas new = record { read = e.read; areas_are = e.areas; before = e.none_before; within = e.within } in
+    let searched : Searched (rest_from bytes at) mid n areas new = record { has_read = e.read; areas_are = e.areas; before = e.none_before; within = e.within } in
     let none : arrivals_in areas ≡ [] = elim c.else-found.branch [
       | else-found-via-then-found+else-arrives w ↦
           lent_one c.find_area-count.result.1 new new.area (arrival_in new.area) w.if-found.true refl refl

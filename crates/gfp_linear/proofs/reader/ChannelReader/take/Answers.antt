@@ -10,7 +10,7 @@ returns-then-find_area c =
     let new = c.find_area.new.self in
     let areas = news c.find_area.result.1 new in
     let e = c.find_area.ensures in
-    let searched : Searched (c.args.byte ∷ []) c.self.inside.reader c.find_area.result.0 areas new = record { read = e.read; areas_are = e.areas; before = e.none_before; within = e.within } in
+    let searched : Searched (c.args.byte ∷ []) c.self.inside.reader c.find_area.result.0 areas new = record { has_read = e.read; areas_are = e.areas; before = e.none_before; within = e.within } in
     let some : 1 ≤ c.find_area.result.0 = e.some (omega arith) in (
       (refl, (λ _. tt), reads_one c.args.byte c.find_area.result.0 c.args.self.now c.self.inside.reader new areas c.self.view_is searched some),
       record {
@@ -27,7 +27,7 @@ returns-else-find_area c =
     let new = c.find_area.new.self in
     let areas = news c.find_area.result.1 new in
     let e = c.find_area.ensures in
-    let searched : Searched (c.args.byte ∷ []) c.self.inside.reader c.find_area.result.0 areas new = record { read = e.read; areas_are = e.areas; before = e.none_before; within = e.within } in
+    let searched : Searched (c.args.byte ∷ []) c.self.inside.reader c.find_area.result.0 areas new = record { has_read = e.read; areas_are = e.areas; before = e.none_before; within = e.within } in
     let some : 1 ≤ c.find_area.result.0 = e.some (omega arith) in (
       (refl, (λ _. tt), reads_one c.args.byte c.find_area.result.0 c.args.self.now c.self.inside.reader new areas c.self.view_is searched some),
       record {

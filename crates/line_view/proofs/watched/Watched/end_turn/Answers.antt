@@ -28,7 +28,7 @@ returns-clause-turn c =
     record {
       same = record { slots = e.slots; sink_port = e.port; port = refl; name = refl; first = refl; stop = refl };
       waits = λ off. cc;
-      count = λ _. e.read;
+      count = λ _. e.taken;
       stands = λ _ has own past frames h. subst (λ w. StandsAfter own (ended_view own w frames ∷ past) [] sink) (all.same has) (e.stands own past frames h);
       told = λ _ has own past frames h.
           let view = ended_view own c.has_all-whole.result frames in

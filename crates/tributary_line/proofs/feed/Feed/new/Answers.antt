@@ -10,6 +10,6 @@ returns-clause-stands c =
     (ap slots_of c.requires.plain) c.in_ok-line.ensures (c.in_ok-source.ensures.stands c.args.port)
     (record {
       many = c.allot.ensures.size ∙ c.new-map.ensures.size ∙ ap slots_of (sym c.requires.plain);
-      used = c.allot.ensures.available.available;
-      free = λ slot low none. c.allot.ensures.available.others slot low none ∙ c.new-map.ensures.free slot;
+      used = c.allot.ensures.given.given;
+      free = λ slot low none. c.allot.ensures.given.others slot low none ∙ c.new-map.ensures.free slot;
     }) refl
