@@ -309,9 +309,9 @@ asks clients first was is emitted old mid new index answer idle which_is maker_s
         each = λ c channel known. each c channel known (which c index);
         weave = weave;
         only = only_on clients first was is asked.channel.client index has.only asked.only (here_at.client) here;
-        given_is = told.emitted ∙ given_same ∙ has.given_is;
+        emitted_is = told.emitted ∙ given_same ∙ has.emitted_is;
         end_is = told.end ∙ ap (λ x. end_after answer mid.emitted (length packet) x) end_same
-            ∙ end_told answer mid.emitted (length emitted) (length packet) bytes old.end has.end (given_same ∙ has.given_is) all_given has.end_is;
+            ∙ end_told answer mid.emitted (length emitted) (length packet) bytes old.end has.end (given_same ∙ has.emitted_is) all_given has.end_is;
       };
       unsettled = λ c channel known. unsettled c channel known (which c index);
       begun = begun_on clients n index (length emitted) packet at answer ready.begun (subst (λ k. k ≤ length emitted) all_given (omega arith));

@@ -35,7 +35,7 @@ settles clients first was is emitted old new index maker_same given_same end_sam
         each = λ c channel known. each c channel known (which c index);
         weave = λ inputs may. h.has.weave inputs (earlier inputs may);
         only = only_on clients first was is asked.channel.client index h.has.only asked.only here_at.client here;
-        given_is = given_same ∙ h.has.given_is;
+        emitted_is = given_same ∙ h.has.emitted_is;
         end_is = end_same ∙ h.has.end_is;
       };
       over = λ c channel known less. over c channel known less (which c index);

@@ -11,7 +11,7 @@ use Rattle.otn_ports.specs.Views.{State, Empty, Live, Dead, is_dead, InView, Bay
 use Rattle.otn_ports.proofs.GivenLaws.{dead_of}
 use Rattle.otn_ports.specs.declared.drain.Written.{Written}
 use Rattle.otn_ports.specs.declared.drain.Written.TheVariants as written
-use Rattle.packet_text.specs.LinesStand.{LinesStand, ReadAsNeeded, lines_view, came_short, asked_for}
+use Rattle.packet_text.specs.LinesStand.{LinesStand, ReadAsNeeded, lines_view, read_short, asked_for}
 use Rattle.packet_text.specs.declared.line.Line.{Line}
 use Rattle.packet_text.specs.declared.line.Line.TheVariants as line
 use Rattle.gfp_linear.specs.Weave.{ChannelText, WovenFrame, no_text, packets_given, weave_text, woven_within}

@@ -12,7 +12,7 @@ use Rattle.otn_ports.specs.PortViews.{SinkView, SinkGot, SinkWrites}
 use Rattle.otn_ports.specs.Views.{State, Empty, Live, Dead, InView, BaysView, client_in_at, line_out_at}
 use Rattle.otn_ports.specs.declared.drain.Written.{Written}
 use Rattle.otn_ports.specs.declared.drain.Written.TheVariants as written
-use Rattle.packet_text.specs.LinesStand.{LinesStand, ReadAsNeeded, lines_view, came_short, asked_for}
+use Rattle.packet_text.specs.LinesStand.{LinesStand, ReadAsNeeded, lines_view, read_short, asked_for}
 use Rattle.packet_text.specs.declared.line.Line.{Line}
 use Rattle.packet_text.specs.declared.line.Line.TheVariants as line
 use Rattle.gfp_linear.specs.Laws.{IsFront}

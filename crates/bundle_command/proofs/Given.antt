@@ -47,7 +47,7 @@ gives clients first now emitted bytes count old new hand some size woven channel
     each = λ c channel known. h.has.each c channel (ap (λ (cs : _). slice_get cs.items c) (sym channels) ∙ known);
     weave = λ inputs may. h.has.weave inputs (λ c channel known. may c channel (ap (λ (cs : _). slice_get cs.items c) channels ∙ known));
     only = h.has.only;
-    given_is = count_is ∙ ap (λ x. saturated (x + count)) h.has.given_is ∙ sat_sum (length emitted) count ∙ ap saturated (ap (λ k. length emitted + k) size ∙ sym (length-append emitted bytes));
+    emitted_is = count_is ∙ ap (λ x. saturated (x + count)) h.has.emitted_is ∙ sat_sum (length emitted) count ∙ ap saturated (ap (λ k. length emitted + k) size ∙ sym (length-append emitted bytes));
     end_is = end ∙ h.has.end_is;
   };
   unsettled = λ c channel known. h.unsettled c channel (ap (λ (cs : _). slice_get cs.items c) (sym channels) ∙ known);
@@ -79,7 +79,7 @@ weaving_begins clients weaving list woven fresh emitted end first = record {
         };
     weave = λ inputs may. weave_starts (texts_of (length clients) inputs) (let many = texts_many (length clients) inputs in let some = some_cids clients list.cids in omega arith);
     only = record { client_in = λ n none. refl };
-    given_is = emitted;
+    emitted_is = emitted;
     end_is = end;
   };
   unsettled = λ c channel known more. not_more (sym (fresh.each c channel known).2 ∙ more);

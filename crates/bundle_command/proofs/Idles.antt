@@ -148,7 +148,7 @@ idles_stand clients first now emitted bytes old new none over some woven channel
         };
     weave = λ inputs may. weave_idles (texts_of (length clients) inputs) h.at ((length bytes + 3) / 4) (h.has.weave inputs (may_was inputs may)) (all_given inputs (may_was inputs may));
     only = h.has.only;
-    given_is = count_is ∙ ap (λ x. saturated (x + length bytes)) h.has.given_is ∙ sat_sum (length emitted) (length bytes) ∙ ap saturated (sym (length-append emitted bytes));
+    emitted_is = count_is ∙ ap (λ x. saturated (x + length bytes)) h.has.emitted_is ∙ sat_sum (length emitted) (length bytes) ∙ ap saturated (sym (length-append emitted bytes));
     end_is = end ∙ h.has.end_is;
   };
   unsettled = λ c channel known. h.unsettled c channel (was_known c channel known);

@@ -8,7 +8,7 @@ use Rattle.std.proofs.lemmas.Option.{slice_get_within}
 use Rattle.otn_ports.specs.PortViews.{SinkView, SinkGot, SinkWrites}
 use Rattle.otn_ports.specs.Views.{State, is_dead, InView, BaysView, line_out_at}
 use Rattle.otn_ports.specs.declared.drain.Written.TheVariants as written
-use Rattle.packet_text.specs.LinesStand.{ReadAsNeeded, lines_view, came_short, asked_for}
+use Rattle.packet_text.specs.LinesStand.{ReadAsNeeded, lines_view, read_short, asked_for}
 use Rattle.packet_text.specs.declared.line.Line.{Line}
 use Rattle.packet_text.specs.declared.line.Line.TheVariants as line
 use Rattle.gfp_linear.specs.Weave.{ChannelText, packets_given, weave_text}
@@ -188,7 +188,7 @@ ran clients turns first last report told due left emitted count weaving feed end
           needed = λ c here.
               let k = channel_at clients weaving.channels.items c settled.has.many here in
               let at = (settled.has.each c k.0 k.1).stands in (
-                came_short (lines_view k.0.lines).ended (lines_view k.0.lines).answer,
+                read_short (lines_view k.0.lines).ended (lines_view k.0.lines).answer,
                 read_more _ _ (length (begun_of clients texts turns c) + 1) (settled.read c)
                     (subst (λ ps. asked_for (lines_view k.0.lines).answer (length (packets_given c settled.at.frames ++ at.beyond)) ≤ length ps + 1) (sym (known.stream.begun c))
                     (asked_most k.0.standing (packets_given c settled.at.frames) at.beyond (lines_view k.0.lines).answer at.so)) at.text.needed,

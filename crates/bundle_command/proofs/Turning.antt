@@ -49,7 +49,7 @@ same_weaving clients first was is emitted weaving same h = record {
         };
     weave = h.has.weave;
     only = record { client_in = λ n none. ap (λ (l : List InView). get_or l n no_input) same ∙ h.has.only.client_in n none };
-    given_is = h.has.given_is;
+    emitted_is = h.has.emitted_is;
     end_is = h.has.end_is;
   };
   unsettled = h.unsettled;

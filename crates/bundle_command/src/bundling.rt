@@ -27,7 +27,7 @@ impl Bundling {
     /// none.
     pub(crate) fn new(alloc: Global, clients: &[u8]) -> Result<Bundling, Memory>
         requires { IsClientList clients.now }
-        ensures due { IfOk result (λ parts. (first : BaysView) → TurnsGone clients.now first first 0 parts) }
+        ensures gone { IfOk result (λ parts. (first : BaysView) → TurnsGone clients.now first first 0 parts) }
         ensures source { IfOk result (λ parts. parts.feed.source.slots
             ≡ record { kind = LineKind.Otu2; list = 1 ∷ [] }) }
     {
@@ -42,7 +42,7 @@ impl Bundling {
         requires ready { CanTurn (bays_view I.Source O.Sink bays.old) self.old }
         requires source { self.old.feed.source.slots ≡ record { kind = LineKind.Otu2; list = 1 ∷ [] } }
         requires room { vec_len room.old ≡ GROUPS + 1 }
-        ensures due { (clients : List ℕ) (first : BaysView) (t : ℕ)
+        ensures gone { (clients : List ℕ) (first : BaysView) (t : ℕ)
             → TurnsGone clients first (bays_view I.Source O.Sink bays.old) t self.old
             → TurnsGone clients first (bays_view I.Source O.Sink bays.new) (t + 1) self.new }
         ensures source { self.new.feed.source.slots ≡ self.old.feed.source.slots }

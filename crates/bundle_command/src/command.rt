@@ -62,7 +62,7 @@ fn run_turns<I: Source, O: Sink>(
     requires ready { CanTurn (bays_view I.Source O.Sink bays.old) parts.old }
     requires source { parts.old.feed.source.slots ≡ record { kind = LineKind.Otu2; list = 1 ∷ [] } }
     requires room { vec_len room.old ≡ GROUPS + 1 }
-    ensures due { (clients : List ℕ) (first : BaysView)
+    ensures gone { (clients : List ℕ) (first : BaysView)
         → TurnsGone clients first (bays_view I.Source O.Sink bays.old) 0 parts.old
         → TurnsGone clients first (bays_view I.Source O.Sink bays.new) turns parts.new }
 {

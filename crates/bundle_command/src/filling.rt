@@ -79,7 +79,7 @@ impl Framing {
     // Makes the next frame.
     fn make_frame<I: Source, O: Sink>(&mut self, bays: &mut Rack<I, O>)
         requires ready { AreReady (bays_view I.Source O.Sink bays.old) self.old }
-        requires due { self.old.at ≡ CLIENT_FRAME_BYTES }
+        requires gone { self.old.at ≡ CLIENT_FRAME_BYTES }
         ensures stands { (clients : List ℕ) (first : BaysView) (due : List ℕ)
             → FramesHave clients first (bays_view I.Source O.Sink bays.old) due self.old
             → FramesHave clients first (bays_view I.Source O.Sink bays.new) due self.new }

@@ -26,7 +26,7 @@ const FRAME_OVERHEAD: u64 = 16;
 pub(crate) struct Weaving {
     pub(crate) channels: Vec<Channel>,
     pub(crate) maker: ChannelMaker,
-    // Bytes that were given, and those up to the end of the last packet's frame.
+    // Bytes that were emitted, and those up to the end of the last packet's frame.
     pub(crate) emitted: u64,
     pub(crate) end: u64,
 }

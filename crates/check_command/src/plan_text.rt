@@ -25,11 +25,11 @@ pub fn read_plan<P: Source>(alloc: Global, plan: &mut P) -> Result<Planned, Memo
     ensures { PlanReading result (source_view P.Source plan.old) (source_view P.Source plan.new) }
 {
     let mut text = plan_buffer(alloc)?;
-    let (reading, read) = read_whole(plan, &mut text);
+    let (reading, count) = read_whole(plan, &mut text);
     if reading == Reading::Lost {
         return Ok(Planned::Fault);
     }
-    match Plan::read(alloc, &text[..read]) {
+    match Plan::read(alloc, &text[..count]) {
         Ok(plan) => Ok(Planned::Accepted(plan)),
         Err(NoPlan::Refused(error, place)) => Ok(Planned::Refused(error, place)),
         Err(NoPlan::Memory) => Err(Memory),

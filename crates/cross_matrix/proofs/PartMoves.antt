@@ -1,7 +1,7 @@
 -- The moves of the parts of a pipe.
 use Rattle.std.proofs.Common.{◌≡◌, ◌≢◌, ◌+◌, ◌-◌, ◌∙◌, ℕ, suc, Bool, false, List, [], ◌∷◌, ◌++◌, length, take, drop, slice_range, Option, arith, refl, sym, ap, subst, length-append}
 use Rattle.std.specs.Prelude.{option_map}
-use Rattle.maintenance_signals.specs.Given.{StreamPlace, HasEmitted}
+use Rattle.maintenance_signals.specs.Emitted.{StreamPlace, HasEmitted}
 use Rattle.maintenance_signals.specs.declared.signal.Signal.{Signal}
 use Rattle.odu_client.specs.ClientFrames.{stream_part}
 use Rattle.odu_client.specs.ClientInput.{ClientInput, input_of, input_emits, emitted_before, pace_of, packets_begun, is_spent, bad_line}

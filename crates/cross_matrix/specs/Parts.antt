@@ -1,6 +1,6 @@
 -- API: the parts of a connection: the one that takes from its input, and the one that gives to its output.
 use Rattle.std.specs.Prelude.{◌≡◌, ◌≢◌, ⊤, ℕ, suc, Bool, true, false, if◌then◌else◌, List, [], ◌∷◌, ◌++◌, length, IsSome}
-use Rattle.maintenance_signals.specs.Given.{HasEmitted}
+use Rattle.maintenance_signals.specs.Emitted.{HasEmitted}
 use Rattle.odu_client.specs.ClientInput.{ClientInput, input_of, emitted_before}
 use Rattle.odu_client.specs.Framing.{ClientStands, MayDie}
 use Rattle.otn_ports.specs.Views.{InView, OutView}

@@ -105,9 +105,9 @@ pub record ClientTook (x : Connection) (first now : InView) (read : List ℕ) (j
 
 -- what holds of every pipe of so many slots: what its input brings in any turn has room on either side
 pub record IsPipe (taking : TakingPart) (giving : GivingPart) (paces : List ℕ)
-    (slots came_room gives_room : ℕ) : Type 0 where
+    (slots incoming_room outgoing_room : ℕ) : Type 0 where
   pub sink : HasSlots slots taking
   pub source : GivesSlots slots giving
   pub fit : All (λ pace. pace ≤ slots * GROUPS) paces
-  pub incoming : came_room ≡ slots * (GROUPS + 1)
-  pub outgoing : gives_room ≡ slots * (GROUPS + 1)
+  pub incoming : incoming_room ≡ slots * (GROUPS + 1)
+  pub outgoing : outgoing_room ≡ slots * (GROUPS + 1)

@@ -145,7 +145,7 @@ impl Pipe {
         self.giving.give_client(self.outgoing.bytes(), place);
     }
 
-    /// Ends turn `turn` of the plan: a signal emits what the turn brings, and what came is handed on to the next turn.
+    /// Ends turn `turn` of the plan: a signal emits what the turn brings, and what is incoming is outgoing in the next.
     pub fn fence(&mut self, turn: u32)
         requires turn { self.old.start ≤ turn }
         ensures stands { OfDoneTurn turn self.old (λ at. PipeAt (next_turn at) 0 self.new) }

@@ -1,6 +1,6 @@
 // The part of a pipe that takes from the connection's input.
 ghost use Rattle.std.specs.Prelude.{◌≡◌, ◌<◌, ◌≤◌, ◌+◌, ◌*◌, ◌&&◌, ◌==◌, if◌then◌else◌, ℕ, true, false, List, [], Option, IsTrue, length, take, ◌≢◌, nat_lt, option_map};
-ghost use Rattle.maintenance_signals.specs.Given.{HasEmitted};
+ghost use Rattle.maintenance_signals.specs.Emitted.{HasEmitted};
 ghost use Rattle.maintenance_signals.specs.Stream.{signal_bytes};
 ghost use Rattle.maintenance_signals.specs.declared.signal.Signal.{Signal};
 ghost use Rattle.odu_client.specs.Framing.{ClientStands, Fills};
@@ -80,7 +80,7 @@ impl TakingPart {
         }
     }
 
-    /// Ends a turn of the connection's line: what its sink emits came, in a buffer that the sink gives in exchange.
+    /// Ends a turn of the connection's line: what its sink emits is incoming, in a buffer that the sink gives in exchange.
     pub(crate) fn end_frames(&mut self, whole: bool, incoming: &mut Burst)
         requires line { OnSink self.old (λ sink. IsTrue whole → sink.taken ≡ slots_of sink.slots.kind) }
         requires room { OnSink self.old (λ sink. incoming.old.room ≡ length sink.slots.list * (GROUPS + 1)) }

@@ -19,7 +19,7 @@ use Rattle.line_side.proofs.Exits.{took_is}
 use Rattle.line_side.proofs.Frames.{length_parts}
 use Rattle.line_side.proofs.Mfas.{length_mfas}
 use Rattle.multiframe.specs.LineTurns.{Lock, LineState, Hunting, Locked, Ended, Outcome, CutShort, Lost, Whole, lock_from, least_start, outcome_of, after_outcome, after_hunt, after_turn, line_state, wanted, wanted_in, wanted_from, wanted_so_far}
-use Rattle.device_model.specs.Moments.{line_taken}
+use Rattle.device_model.specs.Moments.{line_read}
 use Rattle.device_model.specs.Numbers.{ending_of, line_ending}
 use Rattle.otn_ports.specs.Asked.{ByteAsked, has_come}
 use Rattle.device_model.specs.LineAsked.{is_seen, MayHave, InputLeft}
@@ -116,12 +116,12 @@ length_at_end form read further raw available may e =
 -- Of the line was taken what its turns want, and one byte more, or all that there is; and more was there exactly where
 -- that byte came.
 pub record EndOfLine (form : LineForm) (read further available : List ℕ) (t : ℕ) : Type 0 where
-  pub took : length (read ++ further) ≡ min (length available) (suc (line_taken form available t 0))
-  pub more : has_come further ≡ true → line_taken form available t 0 < length available
-  pub none : has_come further ≡ false → length available ≤ line_taken form available t 0
+  pub took : length (read ++ further) ≡ min (length available) (suc (line_read form available t 0))
+  pub more : has_come further ≡ true → line_read form available t 0 < length available
+  pub none : has_come further ≡ false → length available ≤ line_read form available t 0
 
 end_by : (form : LineForm) (read further rest available : List ℕ) (t : ℕ) (b : Bool) → has_come further ≡ b → length further ≤ 1 → (b ≡ false → rest ≡ []) → length available ≡ length read + length further + length rest
-    → length (read ++ further) ≡ length read + length further → length read ≡ line_taken form available t 0 → EndOfLine form read further available t
+    → length (read ++ further) ≡ length read + length further → length read ≡ line_read form available t 0 → EndOfLine form read further available t
 end_by form read further rest available t true e most over parts sum took =
     let one = one_came further most e in
     record { took = omega (arith, one, parts, sum, took); more = λ _. omega (arith, one, parts, took); none = λ f. absurd (cc) }
@@ -134,7 +134,7 @@ pub end_of_line : (form : LineForm) (first was is : InView) (read further raw av
     → ByteAsked (not (is_seen line.reader.ending)) was is further → MayHave (has_come further) (read ++ further) raw → available ≡ through_mask form.scrambled raw → EndOfLine form read further available t
 end_of_line form first was is read further raw available t line h none asked may e =
     end_by form read further may.rest available t (has_come further) refl asked.most may.over (length_at_end form read further raw available may e) (length-append read further)
-    (took_is form first was read available t line h (may_at_end form first was is read further raw available t line h asked may e) ∙ ap (line_taken form available t) none)
+    (took_is form first was read available t line h (may_at_end form first was is read further raw available t line h asked may e) ∙ ap (line_read form available t) none)
 
 -- ---- the place
 

@@ -47,8 +47,8 @@ over_ports count =
 
 -- how many bytes an input line of the plan has given: what the turns and pieces so far want, or all where they want a
 -- frame that is not whole
-abbrev pub line_taken : LineForm → (available : List ℕ) → (past pieces : ℕ) → ℕ
-line_taken form available past pieces = took LINE_FRAME_BYTES (length available) (mfas_of available)
+abbrev pub line_read : LineForm → (available : List ℕ) → (past pieces : ℕ) → ℕ
+line_read form available past pieces = took LINE_FRAME_BYTES (length available) (mfas_of available)
     (wanted_so_far (size_of form) (mfas_of available) past pieces)
 
 -- How many of its own turns a client of this connection has done, in or out, before turn past + 1 and by so many pieces

@@ -78,7 +78,7 @@ last_state turns x input = if x.stop == turns then Some (state_in x input (turns
 
 -- ---- of all
 
--- what went to the output lines and to the client outputs
+-- the bytes written to the output lines and to the client outputs
 pub record OutputBytes : Type 0 where
   pub line : (b : ℕ) → List ℕ
   pub client : (n : ℕ) → List ℕ

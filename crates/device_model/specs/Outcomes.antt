@@ -9,7 +9,7 @@ use Rattle.plan_file.specs.declared.connection.Connection.{Connection}
 use Rattle.plan_file.specs.declared.connection.FromEnd.TheVariants as from_end
 use Rattle.plan_file.specs.declared.plan.Plan.{Plan}
 use Rattle.device_model.specs.Entries.{first_turn, form_in}
-use Rattle.device_model.specs.Moments.{uses, line_taken}
+use Rattle.device_model.specs.Moments.{uses, line_read}
 use Rattle.device_model.specs.Through.{Inputs}
 use Rattle.device_model.specs.declared.outcome.Outcome.{Outcome}
 use Rattle.device_model.specs.declared.outcome.Outcome.TheVariants.{Done, Unfinished, Cut}
@@ -30,7 +30,7 @@ pub record HasDead (plan : Plan) (last : BaysView) : Type 0 where
 pub record HasMore (plan : Plan) (inputs : Inputs) : Type 0 where
   pub line : ℕ
   pub used : uses plan (port.LineIn line) ≡ true
-  pub more : line_taken (form_in plan line) (inputs.line line) plan.turns 0 < length (inputs.line line)
+  pub more : line_read (form_in plan line) (inputs.line line) plan.turns 0 < length (inputs.line line)
 
 -- how many bytes of its stream a client's input emits in all its turns
 abbrev pub emitted_in_all : Connection → ℕ

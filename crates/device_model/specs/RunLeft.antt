@@ -16,7 +16,7 @@ use Rattle.plan_file.specs.declared.plan.Plan.{Plan}
 use Rattle.device_model.specs.Entries.{form_in}
 use Rattle.device_model.specs.Inputs.{has_died}
 use Rattle.device_model.specs.LineAsked.{MayHave, InputLeft}
-use Rattle.device_model.specs.Moments.{uses, line_taken, client_due, LineDue}
+use Rattle.device_model.specs.Moments.{uses, line_read, client_due, LineDue}
 use Rattle.device_model.specs.Numbers.{OutputBytes, AreNumbers}
 use Rattle.device_model.specs.Outcomes.{emitted_in_all}
 use Rattle.device_model.specs.Report.{Numbers}
@@ -94,7 +94,7 @@ SamePlace (port.ClientOut n) first last = client_out_at last n ≡ client_out_at
 -- of a line was taken what the turns of the plan want, and one byte more, or all that there is
 abbrev pub TookOf : Plan → Inputs → Takings → (a : ℕ) → Type 0
 TookOf plan inputs takings a = length (takings.line a)
-    ≡ min (length (inputs.line a)) (suc (line_taken (form_in plan a) (inputs.line a) plan.turns 0))
+    ≡ min (length (inputs.line a)) (suc (line_read (form_in plan a) (inputs.line a) plan.turns 0))
 
 -- Of the text of a client no block of 4,096 bytes was read that was not needed: what was taken before the last one has
 -- fewer packets than are begun in all its turns, and shows no bad line.

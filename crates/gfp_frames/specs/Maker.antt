@@ -9,13 +9,13 @@ pub record MakerState : Type 0 where
   pub hand : List ℕ
   pub register : ℕ
 
--- Since its start the maker began these frames and gave these bytes: together with what it has in hand they are the
+-- Since its start the maker began these frames and emitted these bytes: with what it has in hand they are the
 -- frames' text.
 pub record HasMade (frames : List Frame) (emitted : List ℕ) (maker : MakerState) : Type 0 where
   pub text : emitted ++ maker.hand ≡ text_of frames
   pub last : maker.register ≡ last_bits 0 (scrambled 0 (areas_of frames))
 
--- what holds of the bytes that any maker has given since it began these frames
+-- what holds of the bytes that any maker has emitted since it began these frames
 abbrev pub OfMade : List Frame → ((emitted : List ℕ) → Type 0) → Type 0
 OfMade frames Holds = (emitted : List ℕ) (maker : MakerState) → HasMade frames emitted maker → Holds emitted
 

@@ -34,7 +34,7 @@ areas_from Sync wanted bytes = from_sync bytes
 abbrev pub to_come : ReaderState → List ℕ → List (List ℕ)
 to_come reader more = plain_areas reader.register (areas_from reader.phase reader.wanted (reader.held ++ more))
 
--- The reader took these bytes since its start: whatever comes, the areas of the whole list are those of these bytes,
+-- The reader read these bytes since its start: whatever comes, the areas of the whole list are those of these bytes,
 -- and those that the reader has yet to find.
 pub record HasRead (read : List ℕ) (reader : ReaderState) : Type 0 where
   pub whole : (more : List ℕ) → areas_in (read ++ more) ≡ areas_in read ++ to_come reader more

@@ -29,7 +29,7 @@ const HEADER: usize = 4;
 #[derive(Drop)]
 pub struct GfpMaker {
     scrambler: Scrambler,
-    // The frame in hand, and how many of its bytes were given.
+    // The frame in hand, and how many of its bytes were emitted.
     frame: Vec<u8>,
     emitted: usize,
 }

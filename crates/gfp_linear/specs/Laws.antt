@@ -92,7 +92,7 @@ abbrev pub WeaveGoesOn : Type 0
 WeaveGoesOn = (texts : List ChannelText) (at : Woven) (c : ℕ) → IsWeave texts at → c ≡ channel_at (length texts) at
     → IsWeave texts (woven_on (length texts) at (offer c (get_or texts c no_text) at.frames))
 
--- And the bytes that were given are its first bytes.
+-- And the bytes that were emitted are its first bytes.
 abbrev pub MadeIsTheWeave : Type 0
 MadeIsTheWeave = (cids : List ℕ) (texts : List ChannelText) (at : Woven) (emitted : List ℕ) (maker : WeaverState)
     → HasWoven cids at emitted maker → IsWeave texts at

@@ -21,7 +21,7 @@ use Rattle.otn_ports.specs.PortViews.{SinkView}
 use Rattle.command_base.specs.Ends.{ReportAfter}
 use Rattle.command_base.specs.Gains.{GainsPart}
 use Rattle.device_model.specs.LineViews.{emitted_at}
-use Rattle.line_commands.specs.PullReport.{emitted_until, pull_report, frames_wanted, bytes_taken, LeavesBytes}
+use Rattle.line_commands.specs.PullReport.{emitted_until, pull_report, frames_wanted, bytes_read, LeavesBytes}
 use Rattle.line_commands.specs.PullRuns.{PullEnded}
 use Rattle.line_commands.specs.Steps.PullRuns.{TurnRun, AnswerRun}
 use Rattle.line_commands.specs.PullReport.{MayFollow}
@@ -223,7 +223,7 @@ closed_least : (n m frames : ℕ) → n ≡ m → m < 16320 * frames → n ≡ m
 closed_least n m frames a b = omega (arith, a, b)
 
 alone_took : (own : Tributary) (read : List ℕ) (line : LineView) (old new : Option (List ℕ)) → AllTurns own read line old new
-    → (rest : List ℕ) → rest ≡ [] → length read ≡ bytes_taken (read ++ rest)
+    → (rest : List ℕ) → rest ≡ [] → length read ≡ bytes_read (read ++ rest)
 alone_took own read line old new all rest none = by_ending line.reader.ending refl
   where
     took : TookWanted (read ++ rest) read line.reader
@@ -232,10 +232,10 @@ alone_took own read line old new all rest none = by_ending line.reader.ending re
     same : length (read ++ rest) ≡ length read
     same = ap length (ap (λ xs. read ++ xs) none ∙ append-nil read)
 
-    closed : line.reader.ending ≢ Open → length read ≡ bytes_taken (read ++ rest)
+    closed : line.reader.ending ≢ Open → length read ≡ bytes_read (read ++ rest)
     closed ended = let o = took.over ended in closed_least (length read) (length (read ++ rest)) (frames_wanted (read ++ rest)) o.0 o.2
 
-    by_ending : (e : Ending) → line.reader.ending ≡ e → length read ≡ bytes_taken (read ++ rest)
+    by_ending : (e : Ending) → line.reader.ending ≡ e → length read ≡ bytes_read (read ++ rest)
     by_ending Open e =
         let s = took.still e in
         open_least (length read) (length (read ++ rest)) (frames_wanted (read ++ rest)) (s.0 ∙ ap (λ n. 16320 * n) s.1) same

@@ -9,8 +9,8 @@ use Rattle.command_base.specs.Device.{Device, OnlyLine, line_zero}
 use Rattle.command_base.specs.AnswerWords.{CountsBy, Reports, IsLineAnswer}
 use Rattle.command_base.specs.declared.status.Status.{Status}
 use Rattle.command_base.specs.declared.status.Status.TheVariants.{Unfinished, ReportFault, Cut, Memory}
-use Rattle.line_commands.specs.PullReport.{LeavesBytes, bytes_taken, pull_report, MayFollow, StoppedInTurn}
-use Rattle.line_commands.specs.SlotReport.{HasBytesBehind, slot_report, most_taken, StoppedInFrame}
+use Rattle.line_commands.specs.PullReport.{LeavesBytes, bytes_read, pull_report, MayFollow, StoppedInTurn}
+use Rattle.line_commands.specs.SlotReport.{HasBytesBehind, slot_report, most_read_of_line, StoppedInFrame}
 
 -- ---- a command over line input 0, by what it is to have done once there was memory
 
@@ -43,11 +43,11 @@ pub record SlotRan (slot : ℕ) (old new : Device) (status : Status) : Type 0 wh
   pub unfinished : status ≢ ReportFault → (status ≡ Unfinished) ↔
       (((line_zero new).state ≢ Dead) × HasBytesBehind (length read))
   -- never more than 131,072 frames and one byte
-  pub most : length read ≤ most_taken
+  pub most : length read ≤ most_read_of_line
   -- where no write failed, all that there is was taken, so that a line that is not dead has answered its end, or that
   -- many
   pub all : status ≢ ReportFault → (line_zero new).state ≢ Dead → HasEnded (line_zero new).left (line_zero new).ended
-      ⊎ (length read ≡ most_taken)
+      ⊎ (length read ≡ most_read_of_line)
 
 -- ---- `pull PORT K,K`: what the sink of a tributary on line input 0 emits, turn by turn
 
@@ -73,7 +73,7 @@ pub record PullRan (own : Tributary) (old new : Device) (status : Status) : Type
   pub counted : status ≢ ReportFault → (status ≡ Unfinished) ↔
       (((line_zero new).state ≢ Dead) × (0 < length read % LINE_FRAME_BYTES))
   -- as many bytes were taken as the turns want and one more, or all that there are
-  pub took : status ≢ ReportFault → (rest : List ℕ) → MayFollow more rest → length read ≡ bytes_taken (read ++ rest)
+  pub took : status ≢ ReportFault → (rest : List ℕ) → MayFollow more rest → length read ≡ bytes_read (read ++ rest)
   -- and where a write failed, that ended the command at once, with the turn whose bytes were being written the last
   pub stopped : status ≡ ReportFault
       → (t : ℕ) × ((rest : List ℕ) → MayFollow more rest

@@ -18,8 +18,8 @@ OfAllAvailable Ran Holds = (old new : Device) (status : Status) (available : Lis
     → status ≢ ReportFault → HadToGive (line_zero old) (line_zero new) available → Holds old new status available
 
 -- the same where the report failed, by how many bytes of the line were taken
-abbrev pub OfTaken : (Ran : (old new : Device) → Status → Type 0)
+abbrev pub OfRead : (Ran : (old new : Device) → Status → Type 0)
     → ((old new : Device) → (available : List ℕ) → (read : ℕ) → Type 0) → Type 0
-OfTaken Ran Holds = (old new : Device) (available : List ℕ) → Ran old new ReportFault
+OfRead Ran Holds = (old new : Device) (available : List ℕ) → Ran old new ReportFault
     → HadToGive (line_zero old) (line_zero new) available → (line_zero new).number < 2 ^ 64 - 1
     → Holds old new available ((line_zero new).number - (line_zero old).number)

@@ -32,8 +32,8 @@ frames_wanted available = wanted OTU2_SLOTS (mfas_of available) (length (turns_o
 
 -- how many bytes `pull` takes of a line: these frames and the one byte more that it asks for, or all where there are
 -- fewer
-abbrev pub bytes_taken : List ℕ → ℕ
-bytes_taken available = min (length available) (LINE_FRAME_BYTES * frames_wanted available + 1)
+abbrev pub bytes_read : List ℕ → ℕ
+bytes_read available = min (length available) (LINE_FRAME_BYTES * frames_wanted available + 1)
 
 -- how many bytes the first t turns want of a line, or all where there are fewer
 abbrev pub bytes_wanted : List ℕ → (t : ℕ) → ℕ

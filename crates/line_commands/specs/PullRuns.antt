@@ -6,7 +6,7 @@ use Rattle.otn_ports.specs.Reads.{HasEnded}
 use Rattle.otn_ports.specs.Views.{InView, Live, Dead}
 use Rattle.tributary_model.specs.Places.{Tributary}
 use Rattle.command_base.specs.Ends.{line_status}
-use Rattle.line_commands.specs.PullReport.{pull_report, LeavesBytes, bytes_taken, MayFollow, StoppedInTurn}
+use Rattle.line_commands.specs.PullReport.{pull_report, LeavesBytes, bytes_read, MayFollow, StoppedInTurn}
 use Rattle.command_base.specs.AnswerWords.{Reports}
 use Rattle.otn_ports.specs.declared.ended.Ended.{Ended}
 use Rattle.otn_ports.specs.declared.ended.Ended.TheVariants.{Done, Unfinished, Cut, ReportFault, Memory}
@@ -32,6 +32,6 @@ pub record PullEnded (own : Tributary) (first now : InView) (old new : Option (L
   pub report : (rest : List ℕ) → MayFollow more rest
       → Reports (line_status ended) old new (pull_report own (read ++ rest))
   pub ends : PullEnds ended more read now
-  pub took : ended ≢ ReportFault → (rest : List ℕ) → MayFollow more rest → length read ≡ bytes_taken (read ++ rest)
+  pub took : ended ≢ ReportFault → (rest : List ℕ) → MayFollow more rest → length read ≡ bytes_read (read ++ rest)
   pub stopped : ended ≡ ReportFault → (t : ℕ)
       × ((rest : List ℕ) → MayFollow more rest → StoppedInTurn own (read ++ rest) (length read) t old new)

@@ -12,8 +12,8 @@ unfoldable pub whole_frames_used : ℕ → ℕ
 whole_frames_used n = min MOST_FRAMES (n / LINE_FRAME_BYTES)
 
 -- how many bytes `slot` takes at most: those of the most frames, and one more
-abbrev pub most_taken : ℕ
-most_taken = MOST_FRAMES * LINE_FRAME_BYTES + 1
+abbrev pub most_read_of_line : ℕ
+most_read_of_line = MOST_FRAMES * LINE_FRAME_BYTES + 1
 
 -- the payload bytes of a slot in a frame, row by row
 unfoldable pub slot_bytes : (slot : ℕ) → List ℕ → List ℕ

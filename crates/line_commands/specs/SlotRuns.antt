@@ -5,7 +5,7 @@ use Rattle.otn_ports.specs.Bytes.{after}
 use Rattle.otn_ports.specs.Given.{Gave, DiedUnended}
 use Rattle.otn_ports.specs.Reads.{HasEnded}
 use Rattle.otn_ports.specs.Views.{InView, Dead}
-use Rattle.line_commands.specs.SlotReport.{slot_report, whole_frames_used, most_taken, StoppedInFrame}
+use Rattle.line_commands.specs.SlotReport.{slot_report, whole_frames_used, most_read_of_line, StoppedInFrame}
 use Rattle.otn_ports.specs.declared.ended.Ended.{Ended}
 use Rattle.otn_ports.specs.declared.ended.Ended.TheVariants.{Done, Unfinished, Cut, ReportFault, Memory}
 
@@ -15,15 +15,15 @@ abbrev pub SlotEnds : Ended → (slot : ℕ) → (read : List ℕ) → (first no
 SlotEnds Done slot read first now old new =
     (new ≡ after old (slot_report slot read)) × (now.state ≢ Dead) × HasEnded now.left now.ended
     × (length read ≡ whole_frames_used (length read) * LINE_FRAME_BYTES)
-    × (length read ≤ most_taken)
+    × (length read ≤ most_read_of_line)
 SlotEnds Unfinished slot read first now old new =
     (new ≡ after old (slot_report slot read)) × (now.state ≢ Dead)
     × (whole_frames_used (length read) * LINE_FRAME_BYTES < length read)
-    × (HasEnded now.left now.ended ⊎ (length read ≡ most_taken)) × (length read ≤ most_taken)
+    × (HasEnded now.left now.ended ⊎ (length read ≡ most_read_of_line)) × (length read ≤ most_read_of_line)
 SlotEnds Cut slot read first now old new = (new ≡ after old (slot_report slot read)) × (now.state ≡ Dead)
-    × (length read ≤ most_taken)
+    × (length read ≤ most_read_of_line)
 SlotEnds ReportFault slot read first now old new = StoppedInFrame slot read (length read) old new
-    × (now.state ≡ first.state) × (length read ≤ most_taken)
+    × (now.state ≡ first.state) × (length read ≤ most_read_of_line)
 SlotEnds Memory slot read first now old new = ⊥
 
 -- a command from the line and the report as they were to how they are

@@ -10,11 +10,11 @@ ghost use Rattle.command_base.specs.Device.{Device, line_zero};
 ghost use Rattle.command_base.specs.declared.status.Status.{Status};
 ghost use Rattle.line_commands.specs.Agreements.{AgreeOnSlot};
 ghost use Rattle.line_commands.specs.LineAnswers.{PullRan, SlotRan};
-ghost use Rattle.line_commands.specs.OfAvailable.{OfAllAvailable, OfAvailable, OfTaken};
+ghost use Rattle.line_commands.specs.OfAvailable.{OfAllAvailable, OfAvailable, OfRead};
 ghost use Rattle.line_commands.specs.PullCarried.{BeginsWithWhatIsCarried, IsTheWholeGroups, HasWhatIsCarriedAfterDamage};
 ghost use Rattle.line_commands.specs.PullDamaged.{WritesAsIfRepeated};
-ghost use Rattle.line_commands.specs.PullReport.{LeavesBytes, StoppedInTurn, bytes_taken, pull_report, tributary};
-ghost use Rattle.line_commands.specs.SlotReport.{HasBytesBehind, StoppedInFrame, most_taken, slot_report};
+ghost use Rattle.line_commands.specs.PullReport.{LeavesBytes, StoppedInTurn, bytes_read, pull_report, tributary};
+ghost use Rattle.line_commands.specs.SlotReport.{HasBytesBehind, StoppedInFrame, most_read_of_line, slot_report};
 
 /// `slot`, by all bytes that line input 0 had to give, where it tells them: they are what is written of (`report`), and
 /// Unfinished is the answer exactly where bytes stand behind the whole frames that are used (`unfinished`); by the
@@ -33,8 +33,8 @@ pub fn slot_of_given()
         × HasBytesBehind ((line_zero new).number - (line_zero old).number)) }
     ensures took { (slot : ℕ) → OfAllAvailable (SlotRan slot) (λ old new answer available.
         (line_zero new).number < 2 ^ 64 - 1
-        → (line_zero new).number - (line_zero old).number ≡ min (length available) most_taken) }
-    ensures stopped { (slot : ℕ) → OfTaken (SlotRan slot) (λ old new available read.
+        → (line_zero new).number - (line_zero old).number ≡ min (length available) most_read_of_line) }
+    ensures stopped { (slot : ℕ) → OfRead (SlotRan slot) (λ old new available read.
         StoppedInFrame slot available read old.report.got new.report.got) }
 {}
 
@@ -53,8 +53,8 @@ pub fn pull_of_given()
         × (0 < ((line_zero new).number - (line_zero old).number) % LINE_FRAME_BYTES)) }
     ensures took { (own : Tributary) → OfAllAvailable (PullRan own) (λ old new answer available.
         (line_zero new).number < 2 ^ 64 - 1
-        → (line_zero new).number - (line_zero old).number ≡ bytes_taken available) }
-    ensures stopped { (own : Tributary) → OfTaken (PullRan own) (λ old new available read.
+        → (line_zero new).number - (line_zero old).number ≡ bytes_read available) }
+    ensures stopped { (own : Tributary) → OfRead (PullRan own) (λ old new available read.
         (t : ℕ) × StoppedInTurn own available read t old.report.got new.report.got) }
 {}
 

@@ -9,7 +9,7 @@ use Rattle.otn_ports.proofs.GivenLaws.{given_of_gave}
 use Rattle.multiframe.specs.LineTurns.{wanted_so_far, took}
 use Rattle.line_side.specs.LineForm.{size_of, through_mask}
 use Rattle.line_side.specs.LineFile.{mfas_of}
-use Rattle.line_side.specs.Laws.{GivenIsAmong, TakesTheWanted}
+use Rattle.line_side.specs.Laws.{AvailableIsAmong, TakesTheWanted}
 use Rattle.line_side.specs.LineStands.{LineView, IsLine}
 use Rattle.line_side.specs.declared.ending.Ending.{Ending}
 use Rattle.line_side.specs.declared.ending.Ending.TheVariants.{Open, Seen, Died}
@@ -29,7 +29,7 @@ none_left s left answered rest live other ended = go (live_or_not s)
     go (inl now) = subst (λ l. IfSome l (λ bytes. bytes ≡ [])) (live now) (ended now).nothing
     go (inr idle) = other idle
 
-pub given_among : GivenIsAmong
+pub given_among : AvailableIsAmong
 given_among form first now read file t line h g =
     let b = given_of_gave first now read file h.gave g in
     record { rest = b.rest; over = λ closed. none_left now.state now.left now.ended b.rest b.live b.other (h.over closed); parts = ap (through_mask form.scrambled) b.parts }

@@ -14,8 +14,8 @@ use Rattle.line_side.specs.LineOutput.{FramePut, IsLineFrame, AreLineFrames}
 use Rattle.line_side.specs.MayBe.{MayBe}
 
 -- What a place that tells its bytes gave in the whole run is, through the mask, among what the line may have.
-abbrev pub GivenIsAmong : Type 0
-GivenIsAmong = (form : LineForm) (first now : InView) (read file : List ℕ) (t : ℕ) (line : LineView)
+abbrev pub AvailableIsAmong : Type 0
+AvailableIsAmong = (form : LineForm) (first now : InView) (read file : List ℕ) (t : ℕ) (line : LineView)
     → LineStands form first now read t line → HadToGive first now file
     → MayBe form.scrambled line.reader.ending read (through_mask form.scrambled file)
 

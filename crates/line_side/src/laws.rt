@@ -1,9 +1,9 @@
 // The laws about a line's bytes, each the contract of a function.
-ghost use Rattle.line_side.specs.Laws.{FrameByFrame, FramesThroughMask, GivenIsAmong, MaskedTwice, OneLineFile, ParityTwoOn, TakesTheWanted};
+ghost use Rattle.line_side.specs.Laws.{FrameByFrame, FramesThroughMask, AvailableIsAmong, MaskedTwice, OneLineFile, ParityTwoOn, TakesTheWanted};
 
 /// What a place that tells its bytes gave in the whole run is among what the line may have.
 pub fn given_is_among()
-    ensures { GivenIsAmong }
+    ensures { AvailableIsAmong }
 {}
 
 /// Of any place so many bytes were taken as the turns of the line and their pieces want.

@@ -11,7 +11,7 @@ use Rattle.protect_selector.specs.ProtectLeft.{AllDone, IsCut, LeftSo, ProtectRa
 use Rattle.protect_selector.specs.Protecting.{Ends, ends_of}
 use Rattle.command_base.specs.AnswerWords.{IsWell}
 use Rattle.command_base.specs.Ends.{line_status}
-use Rattle.line_tool.specs.ProtectLaws.{AreThreeWell, LeftOfGiven, ProtectIsComplete, ProtectsWhatWasGiven, taken_of}
+use Rattle.line_tool.specs.ProtectLaws.{AreThreeWell, LeftOfGiven, ProtectIsComplete, ProtectsWhatWasGiven, bytes_read}
 use Rattle.command_base.specs.declared.status.Status.TheVariants as status
 use Rattle.line_tool.proofs.Protected.{may_be_itself}
 use Rattle.line_commands.proofs.PullTable.{taken_by_number}
@@ -20,7 +20,7 @@ use Rattle.line_commands.proofs.PullTable.{taken_by_number}
 
 -- how many bytes were taken, by the place's number
 pub took_by_number : (first last : InView) (read : List ℕ) (more : Bool) (turns : ℕ) (available : List ℕ) → InputLeft first last read more → TookOf turns available read → last.number < 2 ^ 64 - 1
-    → last.number - first.number ≡ taken_of turns available
+    → last.number - first.number ≡ bytes_read turns available
 took_by_number first last read more turns available left took below = let n = taken_by_number first last read left.gave below in omega (arith, n, took)
 
 all_left : (ended : Ended) (own : Tributary) (turns wait : ℕ) (first last : Ends) (w p : List ℕ) (ran : ProtectRan own turns wait first last ended) → ended ≢ ReportFault

@@ -56,7 +56,7 @@ abbrev pub BundlesWhatWasGiven : Type 0
 BundlesWhatWasGiven = (clients : List ℕ) (turns : ℕ) (old new : Device) (ended : Ended) (available : ℕ → List ℕ)
     → Bundles clients turns old new ended
     → ((c : ℕ) → c < length clients
-        → HadToGive (place_of clients old.bays c) (place_of clients new.bays c) (available c))
+    → HadToGive (place_of clients old.bays c) (place_of clients new.bays c) (available c))
     → BundledOfGiven clients turns old new ended available (inputs_of clients old.bays new.bays available)
 
 -- No client's place was dead, nor line output 0, and none of their counts of faults rose or stands at its end.

@@ -8,8 +8,8 @@ use Rattle.otn_ports.specs.declared.ended.Ended.{Ended}
 use Rattle.otn_ports.specs.declared.ended.Ended.TheVariants as ending
 use Rattle.line_side.specs.LineForm.{plain_otu2}
 use Rattle.tributary_model.specs.Places.{Tributary}
-use Rattle.device_model.specs.Moments.{line_taken}
-use Rattle.protect_selector.specs.OfLines.{given_before, switch_text}
+use Rattle.device_model.specs.Moments.{line_read}
+use Rattle.protect_selector.specs.OfLines.{due_before, switch_text}
 use Rattle.protect_selector.specs.ProtectLeft.{HasMore, IsCut, OutputDue, StoppedIn}
 use Rattle.protect_selector.specs.Protecting.{Ends, OnlyProtected, ends_of}
 use Rattle.command_base.specs.AnswerWords.{IsWell}
@@ -19,22 +19,22 @@ use Rattle.command_base.specs.declared.status.Status.{Status}
 use Rattle.command_base.specs.declared.status.Status.TheVariants as status
 
 -- how many bytes so many turns want of a line that gives these, and one more, or all where there are fewer
-abbrev pub taken_of : (turns : ℕ) → (available : List ℕ) → ℕ
-taken_of turns available = min (length available) (line_taken plain_otu2 available turns 0 + 1)
+abbrev pub bytes_read : (turns : ℕ) → (available : List ℕ) → ℕ
+bytes_read turns available = min (length available) (line_read plain_otu2 available turns 0 + 1)
 
 -- What is left where working and protection had these bytes to give. By the places' numbers as many were taken of each
 -- as the turns want and one more, or all.
 pub record LeftOfGiven (own : Tributary) (turns wait : ℕ) (first last : Ends) (ended : Ended)
     (w p : List ℕ) : Type 0 where
-  pub output : ended ≢ ending.ReportFault → OutputDue own (given_before own wait w p turns) turns first last
+  pub output : ended ≢ ending.ReportFault → OutputDue own (due_before own wait w p turns) turns first last
   pub report : ended ≢ ending.ReportFault → SinkGot first.report (switch_text own wait w p turns) last.report
   pub cut : ended ≢ ending.ReportFault → (ended ≡ ending.Cut) ↔ IsCut last
   pub unfinished : ended ≢ ending.ReportFault
       → (ended ≡ ending.Unfinished) ↔ ((IsCut last → ⊥) × (HasMore turns w ⊎ HasMore turns p))
   pub working_took : ended ≢ ending.ReportFault → last.working.number < 2 ^ 64 - 1
-      → last.working.number - first.working.number ≡ taken_of turns w
+      → last.working.number - first.working.number ≡ bytes_read turns w
   pub protection_took : ended ≢ ending.ReportFault → last.protection.number < 2 ^ 64 - 1
-      → last.protection.number - first.protection.number ≡ taken_of turns p
+      → last.protection.number - first.protection.number ≡ bytes_read turns p
   -- after ReportFault the turn at whose switch a write failed, from 0
   pub stopped : ended ≡ ending.ReportFault → (t : ℕ) × (t < turns) × StoppedIn own t wait first last w p
 

@@ -13,7 +13,7 @@ use Rattle.unbundle_command.specs.UnbundleLeft.{HasMore, IsCut, OutputsSent, wri
 use Rattle.command_base.specs.AnswerWords.{IsWell}
 use Rattle.line_tool.specs.Answers.{PlacesAnswers, Unbundles}
 use Rattle.command_base.specs.Device.{Device}
-use Rattle.line_tool.specs.ProtectLaws.{taken_of}
+use Rattle.line_tool.specs.ProtectLaws.{bytes_read}
 use Rattle.command_base.specs.declared.status.Status.{Status}
 use Rattle.command_base.specs.declared.status.Status.TheVariants as status
 
@@ -26,7 +26,7 @@ pub record UnbundledOfGiven (turns : ℕ) (old new : Device) (ended : Ended) (av
   pub unfinished : ended ≢ ending.ReportFault
       → (ended ≡ ending.Unfinished) ↔ ((IsCut (arrived_before available turns) new.bays → ⊥) × HasMore turns available)
   pub took : (line_in_at new.bays 0).number < 2 ^ 64 - 1
-      → (line_in_at new.bays 0).number - (line_in_at old.bays 0).number ≡ taken_of turns available
+      → (line_in_at new.bays 0).number - (line_in_at old.bays 0).number ≡ bytes_read turns available
 
 -- Where the line tells its bytes, `unbundle` leaves what it does of all that it had to give.
 abbrev pub UnbundlesWhatWasGiven : Type 0

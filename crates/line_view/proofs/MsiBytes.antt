@@ -11,7 +11,7 @@ use Rattle.tributary_model.specs.Places.{Tributary, Taken, byte_at, msi_at, msi_
 use Rattle.device_model.proofs.TurnFrames.{turn_frames}
 use Rattle.device_model.specs.LineViews.{view_at}
 use Rattle.device_model.specs.TurnFrames.{frames_in}
-use Rattle.line_view.specs.ViewText.{all_slots, msi_came, msi_shown}
+use Rattle.line_view.specs.ViewText.{all_slots, msi_at_turn, msi_shown}
 
 -- a frame of which the MFAS is that of none of these slots
 pub msi_none : (a n expected : ℕ) (frame : List ℕ) → ((k : ℕ) → a ≤ k → k < a + n → expected ≢ 1 + k) → msi_at (range_with_len a n) expected frame ≡ []
@@ -49,7 +49,7 @@ of_turn own true frames = refl
 of_turn own false frames = refl
 
 pub turn_msi : (form : LineForm) (available : List ℕ) (t : ℕ) (whole : Bool) → whole ≡ is_some (multiframe (size_of form) (mfas_of available) t)
-    → (if whole then flat_map (msi_in (all_slots form)) (frames_in (size_of form) available t (size_of form)) else []) ≡ msi_came form available t
-unfolding msi_came
+    → (if whole then flat_map (msi_in (all_slots form)) (frames_in (size_of form) available t (size_of form)) else []) ≡ msi_at_turn form available t
+unfolding msi_at_turn
 turn_msi form available t whole same =
     of_turn (all_slots form) whole (frames_in (size_of form) available t (size_of form)) ∙ ap msi_shown (turn_frames (all_slots form) (size_of form) available t whole refl same)

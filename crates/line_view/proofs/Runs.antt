@@ -26,7 +26,7 @@ use Rattle.line_side.specs.Reader.{EndedAs, ReaderView, rest_of}
 use Rattle.line_side.specs.declared.ending.Ending.{Ending}
 use Rattle.line_side.specs.declared.ending.Ending.TheVariants.{Open, Seen, Died}
 use Rattle.multiframe.specs.LineTurns.{line_state, has_ended, wanted}
-use Rattle.line_view.specs.ViewRuns.{MayFollow, frames_wanted, bytes_taken, ViewEnded, WriteFailed, text_before, text_part, turn_count}
+use Rattle.line_view.specs.ViewRuns.{MayFollow, frames_wanted, bytes_read, ViewEnded, WriteFailed, text_before, text_part, turn_count}
 use Rattle.line_view.specs.Steps.ViewRuns.{lines_of, TurnRun, FinishRun}
 use Rattle.line_view.specs.ViewText.{Showing, head_line, end_line, turn_text, text_until, turns_of, view_text}
 use Rattle.line_view.specs.Steps.Viewing.{ViewStands}
@@ -346,7 +346,7 @@ took_of form shows first was t line watched old gained h few last none available
 took_alone : (form : LineForm) (shows : List Showing) (first was : InView) (t : ℕ) (line : LineView) (watched : List Watched) (old gained : SinkView)
     → (h : TurnsSoFar form shows first was t line watched old gained) → t ≤ 16384
     → ((available : List ℕ) → MayBe form.scrambled line.reader.ending h.read available → (has_ended (line_state (size_of form) (mfas_of available) t) ≡ true) ⊎ (t ≡ 16384))
-    → line.pieces ≡ 0 → (rest : List ℕ) → rest ≡ [] → length h.read ≡ bytes_taken (size_of form) (through_mask form.scrambled (h.read ++ rest))
+    → line.pieces ≡ 0 → (rest : List ℕ) → rest ≡ [] → length h.read ≡ bytes_read (size_of form) (through_mask form.scrambled (h.read ++ rest))
 took_alone form shows first was t line watched old gained h few last none rest nil = by_ending line.reader.ending refl
   where
     available : List ℕ
@@ -355,10 +355,10 @@ took_alone form shows first was t line watched old gained h few last none rest n
     took : TookFrames (frames_wanted (size_of form) available) available h.read line.reader
     took = took_of form shows first was t line watched old gained h few last none available (alone form.scrambled line.reader.ending h.read rest nil)
 
-    closed : line.reader.ending ≢ Open → length h.read ≡ bytes_taken (size_of form) available
+    closed : line.reader.ending ≢ Open → length h.read ≡ bytes_read (size_of form) available
     closed ended = let o = took.over ended in closed_least (length h.read) (length available) (frames_wanted (size_of form) available) o.0 o.1
 
-    by_ending : (e : Ending) → line.reader.ending ≡ e → length h.read ≡ bytes_taken (size_of form) available
+    by_ending : (e : Ending) → line.reader.ending ≡ e → length h.read ≡ bytes_read (size_of form) available
     by_ending Open e =
         let long = length_parts form.scrambled h.read [] rest in
         let none_more : length rest ≡ 0 = ap length nil in

@@ -13,7 +13,7 @@ use Rattle.otn_ports.specs.declared.drain.Written.{Written}
 use Rattle.otn_ports.specs.declared.drain.Written.TheVariants as written
 use Rattle.line_side.specs.LineForm.{LineForm}
 use Rattle.line_view.specs.Steps.ViewRuns.{lines_of, watched_line}
-use Rattle.line_view.specs.ViewText.{is_shown, has_begun, msi_came, msi_line, seen_at, showing_text, told_at, turn_line, tributary_line, turn_text}
+use Rattle.line_view.specs.ViewText.{is_shown, has_begun, msi_at_turn, msi_line, seen_at, showing_text, told_at, turn_line, tributary_line, turn_text}
 use Rattle.line_view.specs.Steps.Watching.{begun, own_of, showing_of}
 use Rattle.line_view.specs.declared.told.TurnSeen.{TurnSeen}
 use Rattle.line_view.specs.declared.watched.Watched.{Watched}
@@ -95,7 +95,7 @@ each_line available t (one ∷ watched) told ports =
     ∙ ap (λ xs. showing_text available t (showing_of one) ++ xs) (each_line available t watched (λ i x at. told (suc i) x at) (λ i x at. ports (suc i) x at))
 
 -- they are what the definition says
-pub lines_are : (form : LineForm) (available : List ℕ) (t : ℕ) (watched : List Watched) (seen : TurnSeen) (msi : List (ℕ × ℕ)) → seen ≡ seen_at form available t → msi ≡ msi_came form available t
+pub lines_are : (form : LineForm) (available : List ℕ) (t : ℕ) (watched : List Watched) (seen : TurnSeen) (msi : List (ℕ × ℕ)) → seen ≡ seen_at form available t → msi ≡ msi_at_turn form available t
     → ((i : ℕ) (one : Watched) → slice_get watched i ≡ Some one → begun one t ≡ true → one.told ≡ told_at (own_of one) one.first available t)
     → ((i : ℕ) (one : Watched) → slice_get watched i ≡ Some one → one.port ≡ one.sink.port)
     → lines_of t seen msi watched ≡ turn_text form (map showing_of watched) available t
@@ -103,7 +103,7 @@ unfolding lines_of turn_text
 lines_are form available t watched seen msi same further told ports =
     ap (λ s. turn_line (t + 1) s ++ (flat_map msi_line msi ++ flat_map (watched_line t) watched)) same
     ∙ ap (λ m. turn_line (t + 1) (seen_at form available t) ++ (flat_map msi_line m ++ flat_map (watched_line t) watched)) further
-    ∙ ap (λ xs. turn_line (t + 1) (seen_at form available t) ++ (flat_map msi_line (msi_came form available t) ++ xs)) (each_line available t watched told ports)
+    ∙ ap (λ xs. turn_line (t + 1) (seen_at form available t) ++ (flat_map msi_line (msi_at_turn form available t) ++ xs)) (each_line available t watched told ports)
 
 -- ---- turns one after another
 

@@ -37,8 +37,8 @@ frames_wanted size available = wanted size (mfas_of available) (length (turns_of
 
 -- how many bytes a view takes of a line: these frames and the one byte more that it asks for, or all where there are
 -- fewer
-abbrev pub bytes_taken : (size : ℕ) → (available : List ℕ) → ℕ
-bytes_taken size available = min (length available) (LINE_FRAME_BYTES * frames_wanted size available + 1)
+abbrev pub bytes_read : (size : ℕ) → (available : List ℕ) → ℕ
+bytes_read size available = min (length available) (LINE_FRAME_BYTES * frames_wanted size available + 1)
 
 -- ---- a write that failed
 
@@ -104,6 +104,6 @@ pub record ViewEnded (form : LineForm) (shows : List Showing) (first now : InVie
       new
   pub ends : ViewEnds ended ending more read now
   pub took : ended ≢ ReportFault → (rest : List ℕ) → MayFollow more rest
-      → length read ≡ bytes_taken (size_of form) (through_mask form.scrambled (read ++ rest))
+      → length read ≡ bytes_read (size_of form) (through_mask form.scrambled (read ++ rest))
   pub failed : ended ≡ ReportFault → (rest : List ℕ) → MayFollow more rest
       → WriteFailed form shows ending (through_mask form.scrambled (read ++ rest)) read old new

@@ -96,8 +96,8 @@ msi_shown (Some view) = view.msi
 
 -- G.709 clause 19.4.1: the MSI bytes that came in turn t + 1 of a line of these bytes, each with its slot; none where
 -- it has no multiframe
-unfoldable pub msi_came : LineForm → (available : List ℕ) → (t : ℕ) → List (ℕ × ℕ)
-msi_came form available t = msi_shown (view_at (all_slots form) available t)
+unfoldable pub msi_at_turn : LineForm → (available : List ℕ) → (t : ℕ) → List (ℕ × ℕ)
+msi_at_turn form available t = msi_shown (view_at (all_slots form) available t)
 
 -- ---- words
 
@@ -155,7 +155,7 @@ turn_line number seen =
 
 -- the MSI byte of a slot
 unfoldable pub msi_line : ℕ × ℕ → List ℕ
-msi_line further = codes "msi " ++ decimal (further.0) ++ codes " " ++ hex_text (further.1) ++ codes "\n"
+msi_line pair = codes "msi " ++ decimal (pair.0) ++ codes " " ++ hex_text (pair.1) ++ codes "\n"
 
 -- what a turn says of a tributary, behind its name and port
 unfoldable pub told_text : (slots : List ℕ) → Told → List ℕ
@@ -183,7 +183,7 @@ showing_text available t x = if is_shown x t then tributary_line x.name x.own.po
 unfoldable pub turn_text : LineForm → List Showing → (available : List ℕ) → (t : ℕ) → List ℕ
 turn_text form shows available t =
     turn_line (t + 1) (seen_at form available t)
-    ++ (flat_map msi_line (msi_came form available t) ++ flat_map (showing_text available t) shows)
+    ++ (flat_map msi_line (msi_at_turn form available t) ++ flat_map (showing_text available t) shows)
 
 -- The turns that are told, each said by the number of turns before it: 16,384 at most, and none after the one in which
 -- the line ended. The list has the MFAS bytes of the line's whole frames.

@@ -15,7 +15,7 @@ pub struct SignalBytes {
 
 impl Model for SignalBytes {
     ghost use Rattle.std.specs.Prelude.{◌<◌};
-    ghost use Rattle.maintenance_signals.specs.Given.{StreamPlace};
+    ghost use Rattle.maintenance_signals.specs.Emitted.{StreamPlace};
     ghost use Rattle.maintenance_signals.specs.declared.runs.TheConstants.{PERIOD};
 
     ghost Value = { StreamPlace };
@@ -27,7 +27,7 @@ impl Model for SignalBytes {
 
 impl SignalBytes {
     ghost use Rattle.maintenance_signals.specs.declared.signal.Signal.{Signal};
-    ghost use Rattle.maintenance_signals.specs.Given.{HasEmitted};
+    ghost use Rattle.maintenance_signals.specs.Emitted.{HasEmitted};
     ghost use Rattle.maintenance_signals.specs.Stream.{signal_bytes};
 
     /// The stream of this signal, at its first byte.

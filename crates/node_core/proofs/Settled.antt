@@ -17,7 +17,7 @@ use Rattle.plan_file.specs.declared.connection.Connection.{Connection}
 use Rattle.plan_file.specs.declared.connection.FromEnd.TheVariants as from_end
 use Rattle.plan_file.specs.declared.plan.Plan.{Plan}
 use Rattle.device_model.specs.Entries.{form_in, first_turn}
-use Rattle.device_model.specs.Moments.{uses, line_taken, turns_done, is_retired}
+use Rattle.device_model.specs.Moments.{uses, line_read, turns_done, is_retired}
 use Rattle.device_model.specs.Outcomes.{place_state, HasDead, HasMore, HasOpen, IsOutcome, emitted_in_all}
 use Rattle.device_model.specs.Through.{Inputs, of_client}
 use Rattle.device_model.specs.SoundPlans.{IsSoundEntry}
@@ -274,7 +274,7 @@ settled_is plan first was is read node dead more unspent n over st lines cut ope
   idle = idle;
   of_inputs = λ inputs may. record {
     may = may_before plan first was is read node inputs over st lines.asked may;
-    took = λ a used. (line_end_at plan first was is read node inputs a lines.asked.further (line a used) may used).took ∙ ap (λ t. min (length (inputs.line a)) (suc (line_taken (form_in plan a) (inputs.line a) t 0))) turns;
+    took = λ a used. (line_end_at plan first was is read node inputs a lines.asked.further (line a used) may used).took ∙ ap (λ t. min (length (inputs.line a)) (suc (line_read (form_in plan a) (inputs.line a) t 0))) turns;
     text = λ x m has from.
         let at = entry_of plan x has in
         let link = link_at plan node has.0 x st.plan_stands at in

@@ -5,7 +5,7 @@ use Rattle.otn_base.specs.declared.kind.PortName.TheVariants as port
 use Rattle.otn_ports.specs.Given.{Lives}
 use Rattle.otn_ports.specs.Views.{State, Empty, Live, Dead, is_dead, InView}
 use Rattle.packet_text.specs.TextLines.{full_lines, text_of_dead}
-use Rattle.packet_text.specs.LinesStand.{LinesView, LinesStand, ReadAsNeeded, came_short, lines_view, may_be}
+use Rattle.packet_text.specs.LinesStand.{LinesView, LinesStand, ReadAsNeeded, read_short, lines_view, may_be}
 use Rattle.packet_text.specs.PacketText.{packets_of}
 use Rattle.packet_text.specs.declared.line.Line.{Line}
 use Rattle.packet_text.specs.declared.line.Line.TheVariants.{Packet, End, Bad, Lost}
@@ -187,7 +187,7 @@ pub text_read : (x : Connection) (first was : InView) (read : List ℕ) (k : ℕ
 text_read x first was read k (taking.Client client) input h m =
     let view = lines_view client.lines in
     let all = (packets_of m.text).packets in
-    let short = came_short view.ended view.answer in
+    let short = read_short view.ended view.answer in
     let asked : packets_asked all client.framer.stream.fcs (length h.emitted) ≡ packets_asked input.packets x.fcs (emitted_before x.pace k) =
     ap (λ f. packets_asked all f (length h.emitted)) h.fcs ∙ ap (packets_asked all x.fcs) h.count ∙ ap (λ (i : ClientInput). packets_asked i.packets x.fcs (emitted_before x.pace k)) (sym m.is) in
     (short, subst (λ n. ReadAsNeeded short n read) asked (read_as_asked first was read h.emitted view client.framer m.text h.stands m.may))

@@ -53,8 +53,8 @@ fn ask_lines<P: Source, K: Sink>(lines: &[LineIn], pieces: &Pieces, bays: &mut R
     let mut more = false;
     for a in 0..LINES as u8 {
         let asks = asks_line(a, &lines[a as usize], pieces);
-        let further = ask_if(asks, bays.line_in_mut(a));
-        more = either(more, further);
+        let has_more = ask_if(asks, bays.line_in_mut(a));
+        more = either(more, has_more);
     }
     more
 }

@@ -7,7 +7,7 @@ use Rattle.std.proofs.lemmas.Bool.Decides.{nat_tests}
 use Rattle.otn_ports.specs.Views.{InView}
 use Rattle.gfp_frames.specs.GfpText.{stream_frames, text_of, gfp_text}
 use Rattle.gfp_frames.proofs.Streams.{given_is_stream}
-use Rattle.packet_text.specs.LinesStand.{LinesView, MayBe, Told, GoesOnWith, HasBad, asked_for, came_short, ReadAsNeeded}
+use Rattle.packet_text.specs.LinesStand.{LinesView, MayBe, Told, GoesOnWith, HasBad, asked_for, read_short, ReadAsNeeded}
 use Rattle.otn_base.specs.Counts.{saturated}
 use Rattle.packet_text.specs.PacketText.{Packets, Ended, packets_of}
 use Rattle.packet_text.specs.declared.line.Line.{Line}
@@ -190,9 +190,9 @@ asked_are first now read emitted lines f text h may = by_answer (is_packet_answe
         ∙ ap (λ t. packets_begun all f.stream.fcs (length emitted) + (if t then 1 else 0)) (sym seen)
 
 pub read_as_asked : (first now : InView) (read emitted : List ℕ) (lines : LinesView) (f : FramerState) (text : List ℕ) → ClientStands first now read emitted lines f → MayBe lines read text
-    → ReadAsNeeded (came_short lines.ended lines.answer) (packets_asked (packets_of text).packets f.stream.fcs (length emitted)) read
+    → ReadAsNeeded (read_short lines.ended lines.answer) (packets_asked (packets_of text).packets f.stream.fcs (length emitted)) read
 read_as_asked first now read emitted lines f text h may =
-    subst (λ n. ReadAsNeeded (came_short lines.ended lines.answer) n read) (asked_are first now read emitted lines f text h may) h.text.stands.needed
+    subst (λ n. ReadAsNeeded (read_short lines.ended lines.answer) n read) (asked_are first now read emitted lines f text h may) h.text.stands.needed
 
 -- ---- the frame in which the end is seen
 

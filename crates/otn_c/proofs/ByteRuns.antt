@@ -7,7 +7,7 @@ use Rattle.std.proofs.lemmas.Option.{slice_get_read}
 use Rattle.otn_base.specs.LineSlots.{LineSlots}
 use Rattle.otn_base.specs.declared.kind.PortName.TheVariants as port
 use Rattle.otn_ports.specs.Bytes.{HasFailed}
-use Rattle.otn_ports.specs.Given.{HadToGive, IsGone, Lives, gone_between}
+use Rattle.otn_ports.specs.Given.{HadToGive, IsWritten, Lives, written_between}
 use Rattle.otn_ports.specs.PortViews.{SourceView, SinkView}
 use Rattle.otn_ports.specs.Retiring.{retired_in_as}
 use Rattle.otn_ports.specs.Views.{State, Empty, Live, Dead, InView, OutView, BaysView, line_in_at, line_out_at, client_in_at, client_out_at}
@@ -203,13 +203,13 @@ client_place bays n =
     let number : 4 + n - 4 ≡ n = omega arith in
     ap (λ t. if t then line_out_at bays (4 + n) else client_out_at bays (4 + n - 4)) back ∙ ap (client_out_at bays) number
 
-gone_by : (state : State) (got : Option (List ℕ)) (bytes : List ℕ) → state ≢ Empty → got ≡ Some bytes → gone_between Live state (Some []) got bytes
+gone_by : (state : State) (got : Option (List ℕ)) (bytes : List ℕ) → state ≢ Empty → got ≡ Some bytes → written_between Live state (Some []) got bytes
 gone_by Empty got bytes some told = absurd (some refl)
 gone_by Live got bytes some told = record { before = []; had = refl; has = told }
 gone_by Dead got bytes some told = record { before = []; had = refl; has = told }
 
-got_all : (first last : OutView) (bytes : List ℕ) → first ≡ waiting → last.state ≢ Empty → IsKept last bytes → IsGone first last bytes
-got_all first last bytes is some kept = subst (λ v. IsGone v last bytes) (sym is) (gone_by last.state last.got bytes some (kept some))
+got_all : (first last : OutView) (bytes : List ℕ) → first ≡ waiting → last.state ≢ Empty → IsKept last bytes → IsWritten first last bytes
+got_all first last bytes is some kept = subst (λ v. IsWritten v last bytes) (sym is) (gone_by last.state last.got bytes some (kept some))
 
 stays_out : (first last : OutView) → first.state ≡ Live → Lives first.state last.state first.faults last.faults → last.state ≢ Empty
 stays_out first last live (inl same) = λ empty. absurd (cc (same.0, live, empty))
@@ -298,7 +298,7 @@ module _ (call : Call) (c : CallOf call) (k : Carrying call c) (is_plan : plan_o
       (client_opened x n has from) (did.left.client_in x n has from) (c.well.client_in n)
 
   line_got : (x : Connection) (b number : ℕ) (slots : LineSlots) → Contains call.plan.connections x → x.to ≡ to_end.Line b number slots
-      → IsGone (line_out_at c.first b) (line_out_at c.last b) (output_of call b)
+      → IsWritten (line_out_at c.first b) (line_out_at c.last b) (output_of call b)
   line_got x b number slots has to =
       let less : b < 4 = ((sound x has).to_line b number slots to).line in
       let l = of_taken.outputs.line b (to_line_used call.plan has.0 b number slots x (entry call.plan x has) to) in
@@ -309,7 +309,7 @@ module _ (call : Call) (c : CallOf call) (k : Carrying call c) (is_plan : plan_o
       (subst (λ v. IsKept v (output_of call b)) (line_place c.last b less) (k.gives.outputs_got b among))
 
   client_got : (x : Connection) (n : ℕ) → Contains call.plan.connections x → x.to ≡ to_end.Client n → x.retire ≡ false
-      → IsGone (client_out_at c.first n) (client_out_at c.last n) (output_of call (4 + n))
+      → IsWritten (client_out_at c.first n) (client_out_at c.last n) (output_of call (4 + n))
   client_got x n has to keeps =
       let less : n < 16 = (sound x has).to_client n to in
       let l = of_taken.outputs.client x n has to in

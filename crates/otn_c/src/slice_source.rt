@@ -1,6 +1,6 @@
 // A source over bytes that are lent.
 ghost use Rattle.std.specs.Prelude.{◌≡◌, ◌<◌, ◌≤◌, Some, Ok, false, IfOk, OnOk, OnErr, length, min};
-ghost use Rattle.otn_ports.specs.Bytes.{before, read, HasFailed};
+ghost use Rattle.otn_ports.specs.Bytes.{before, read_by, HasFailed};
 ghost use Rattle.otn_ports.specs.Reads.{HasEnded, ended_after};
 
 use otn_ports::{Failed, Source};
@@ -47,7 +47,7 @@ impl<'a> Source for SliceSource<'a> {
         ensures cause { OnErr result (HasFailed (lent_faults self.old) (lent_faults self.new)) }
         ensures well { OnOk result (lent_faults self.new ≡ lent_faults self.old) }
         ensures answer { result ≡ Ok (min (length (lent_left self.old)) (length into.old)) }
-        ensures bytes { Some (lent_left self.old) ≡ before (read result into.new) (Some (lent_left self.new)) }
+        ensures bytes { Some (lent_left self.old) ≡ before (read_by result into.new) (Some (lent_left self.new)) }
         ensures answered { lent_ended self.new ≡ ended_after (length into.old) result (lent_ended self.old) }
     {
         let rest = &self.bytes[self.at..];

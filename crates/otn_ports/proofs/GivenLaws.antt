@@ -5,7 +5,7 @@ use Rattle.std.specs.Prelude.{unwrap_or}
 use Rattle.otn_ports.specs.Bytes.{before, after, HasFailed, raised}
 use Rattle.otn_ports.specs.Reads.{Takes, Reads, state_after, idle_reading}
 use Rattle.otn_ports.specs.Writes.{Sends, Writes, state_after_write}
-use Rattle.otn_ports.specs.Given.{Lives, Gave, Gained, DiedUnended, Took, HadToGive, given_between, Grew, IsGone, gone_between}
+use Rattle.otn_ports.specs.Given.{Lives, Gave, Gained, DiedUnended, Took, HadToGive, given_between, Grew, IsWritten, written_between}
 use Rattle.otn_ports.specs.Views.{State, Empty, Live, Dead, is_dead, InView, OutView}
 use Rattle.otn_ports.specs.declared.drain.Written.{Written}
 use Rattle.otn_ports.specs.declared.drain.Written.TheVariants as written
@@ -230,7 +230,7 @@ given_of_gave first now bytes available h k = beyond first.state now.state first
 grew : (first now : Option (List ℕ)) (bytes gone : List ℕ) → now ≡ after first bytes → Grew first now gone → gone ≡ bytes
 grew first now bytes gone e k = append_cancel_left k.before gone bytes (some_same (k.before ++ gone) (k.before ++ bytes) (sym k.has ∙ e ∙ ap (λ got. after got bytes) k.had))
 
-sent : (s t : State) (first now : Option (List ℕ)) (bytes gone : List ℕ) → now ≡ after first bytes → (s ≢ Live → bytes ≡ []) → gone_between s t first now gone → gone ≡ bytes
+sent : (s t : State) (first now : Option (List ℕ)) (bytes gone : List ℕ) → now ≡ after first bytes → (s ≢ Live → bytes ≡ []) → written_between s t first now gone → gone ≡ bytes
 sent Live Live first now bytes gone e idle k = grew first now bytes gone e k
 sent Live Dead first now bytes gone e idle k = grew first now bytes gone e k
 sent Live Empty first now bytes gone e idle k = absurd k
@@ -238,14 +238,14 @@ sent Empty t first now bytes gone e idle k = k ∙ sym (idle empty_not_live)
 sent Dead t first now bytes gone e idle k = k ∙ sym (idle dead_not_live)
 
 -- Gone is what went to the place
-pub gone_of_gained : (first now : OutView) (bytes gone : List ℕ) → Gained first bytes now → IsGone first now gone → gone ≡ bytes
+pub gone_of_gained : (first now : OutView) (bytes gone : List ℕ) → Gained first bytes now → IsWritten first now gone → gone ≡ bytes
 gone_of_gained first now bytes gone h k = sent first.state now.state first.got now.got bytes gone h.sends.got (λ idle. (h.idle idle).1) k
 
 -- below the end of the number, a place counts exactly the bytes
 pub raised-below : (n k m : ℕ) → m ≡ raised n k → m < 2 ^ 64 - 1 → m ≡ n + k
 raised-below n k m e h = omega arith
 
-pub gone_counted : (first now : OutView) (bytes gone : List ℕ) → Gained first bytes now → IsGone first now gone → now.number < 2 ^ 64 - 1 → now.number ≡ first.number + length gone
+pub gone_counted : (first now : OutView) (bytes gone : List ℕ) → Gained first bytes now → IsWritten first now gone → now.number < 2 ^ 64 - 1 → now.number ≡ first.number + length gone
 gone_counted first now bytes gone h k below = rw (gone_of_gained first now bytes gone h k) (raised-below first.number (length bytes) now.number h.sends.number below)
 
 pub taken_counted : (first now : InView) (bytes : List ℕ) → Gave first bytes now → now.number < 2 ^ 64 - 1 → now.number ≡ first.number + length bytes

@@ -8,9 +8,9 @@ before bytes None = None
 before bytes (Some left) = Some (bytes ++ left)
 
 -- what was taken by a read that left the slice so
-abbrev pub read : Result ℕ Failed → List ℕ → List ℕ
-read (Ok n) into = take n into
-read (Err e) into = []
+abbrev pub read_by : Result ℕ Failed → List ℕ → List ℕ
+read_by (Ok n) into = take n into
+read_by (Err e) into = []
 
 -- what a sink has got after it took these bytes; nothing is known where nothing is told
 abbrev pub after : Option (List ℕ) → List ℕ → Option (List ℕ)

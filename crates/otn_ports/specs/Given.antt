@@ -33,18 +33,18 @@ pub record Grew (first now : Option (List ℕ)) (bytes : List ℕ) : Type 0 wher
   pub has : now ≡ Some (before ++ bytes)
 
 -- what went to an output place between two of its states, and between what its sink had got and has got
-abbrev pub gone_between : State → State → Option (List ℕ) → Option (List ℕ) → List ℕ → Type 0
+abbrev pub written_between : State → State → Option (List ℕ) → Option (List ℕ) → List ℕ → Type 0
 -- where its port is no more in the place, what that got is not told
-gone_between Live Empty first now bytes = ⊥
+written_between Live Empty first now bytes = ⊥
 -- where it was live, by so much what it got grew
-gone_between Live state first now bytes = Grew first now bytes
+written_between Live state first now bytes = Grew first now bytes
 -- where it was not live, by nothing
-gone_between other state first now bytes = bytes ≡ []
+written_between other state first now bytes = bytes ≡ []
 
 -- Gone: these are the bytes by which what an output place got grew from its opening view to its
 -- closing one, which is said of a sink that tells its bytes
-abbrev pub IsGone : OutView → OutView → List ℕ → Type 0
-IsGone first now bytes = gone_between first.state now.state first.got now.got bytes
+abbrev pub IsWritten : OutView → OutView → List ℕ → Type 0
+IsWritten first now bytes = written_between first.state now.state first.got now.got bytes
 
 -- a place is as live as it was, and its port's count of faults is as it was; or it was live and died by its own port's
 -- fault

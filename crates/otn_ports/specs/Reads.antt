@@ -55,6 +55,6 @@ idle_reading (suc n) = End 0
 
 -- what so many bytes that came into so much room make of an answer
 abbrev pub IsReading : Reading → ℕ → ℕ → Option (List ℕ) → Bool → Type 0
-IsReading Full further room left ended = further ≡ room
-IsReading (End n) further room left ended = (n ≡ further) × (further < room) × HasEnded left ended
-IsReading Lost further room left ended = further < room
+IsReading Full count room left ended = count ≡ room
+IsReading (End n) count room left ended = (n ≡ count) × (count < room) × HasEnded left ended
+IsReading Lost count room left ended = count < room

@@ -1,6 +1,6 @@
 // A source behind a box, or one in memory.
 ghost use Rattle.std.specs.Prelude.{◌≡◌, ◌<◌, ◌≤◌, Ok, false, IfOk, OnOk, OnErr, length, min};
-ghost use Rattle.otn_ports.specs.Bytes.{before, read, HasFailed};
+ghost use Rattle.otn_ports.specs.Bytes.{before, read_by, HasFailed};
 ghost use Rattle.otn_ports.specs.Ports.{in_left, in_ended, in_faults, is_in_boxed, held_left};
 ghost use Rattle.otn_ports.specs.Reads.{HasEnded, ended_after};
 
@@ -24,7 +24,7 @@ impl Source for InPort {
 
     fn read(&mut self, into: &mut [u8]) -> Result<usize, Failed>
         ensures bound { IfOk result (λ n. n ≤ length into.old) }
-        ensures bytes { in_left left self.old ≡ before (read result into.new) (in_left left self.new) }
+        ensures bytes { in_left left self.old ≡ before (read_by result into.new) (in_left left self.new) }
         ensures end { result ≡ Ok 0 → 0 < length into.old → HasEnded (in_left left self.new) (in_ended ended self.new) }
         ensures answered { in_ended ended self.new ≡ ended_after (length into.old) result (in_ended ended self.old) }
         ensures later { in_faults faults self.old ≤ in_faults faults self.new }

@@ -1,6 +1,6 @@
 // A source in memory that fails at listed calls.
 ghost use Rattle.std.specs.Prelude.{◌≡◌, ◌<◌, ◌≤◌, Some, Ok, false, OnErr, length};
-ghost use Rattle.otn_ports.specs.Bytes.{before, read, raised, faults_after, HasFailed};
+ghost use Rattle.otn_ports.specs.Bytes.{before, read_by, raised, faults_after, HasFailed};
 ghost use Rattle.otn_ports.specs.Reads.{HasEnded, ended_after};
 
 use crate::listed_calls::ListedCalls;
@@ -53,7 +53,7 @@ impl Source for ListedSource {
     fn read(&mut self, into: &mut [u8]) -> Result<usize, Failed>
         ensures answer { ListedGives (is_listed (read_failing self.old) (read_calls self.new)) (read_most self.old)
             (listed_left self.old) (length into.old) result }
-        ensures bytes { Some (listed_left self.old) ≡ before (read result into.new) (Some (listed_left self.new)) }
+        ensures bytes { Some (listed_left self.old) ≡ before (read_by result into.new) (Some (listed_left self.new)) }
         ensures end { result ≡ Ok 0 → 0 < length into.old
             → HasEnded (Some (listed_left self.new)) (listed_ended self.new) }
         ensures answered { listed_ended self.new ≡ ended_after (length into.old) result (listed_ended self.old) }

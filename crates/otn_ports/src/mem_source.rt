@@ -1,6 +1,6 @@
 // A source in memory.
 ghost use Rattle.std.specs.Prelude.{◌≡◌, ◌≤◌, Some, Ok, false, length, drop, vec_len, min};
-ghost use Rattle.otn_ports.specs.Bytes.{before, read};
+ghost use Rattle.otn_ports.specs.Bytes.{before, read_by};
 ghost use Rattle.otn_ports.specs.Reads.{ended_after};
 
 use crate::{Failed, Source};
@@ -42,7 +42,7 @@ impl Source for MemSource {
     /// Gives as many as there are and as the slice has room for.
     fn read(&mut self, into: &mut [u8]) -> Result<usize, Failed>
         ensures answer { result ≡ Ok (min (length (memory_left self.old)) (length into.old)) }
-        ensures bytes { Some (memory_left self.old) ≡ before (read result into.new) (Some (memory_left self.new)) }
+        ensures bytes { Some (memory_left self.old) ≡ before (read_by result into.new) (Some (memory_left self.new)) }
         ensures answered { memory_ended self.new ≡ ended_after (length into.old) result (memory_ended self.old) }
     {
         let rest = &self.bytes[self.at..];

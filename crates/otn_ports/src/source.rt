@@ -1,6 +1,6 @@
 // A port that gives bytes, and may fail at any call.
 ghost use Rattle.std.specs.Prelude.{◌≡◌, ◌<◌, ◌≤◌, ℕ, Bool, false, List, Option, length, IfOk, OnOk, OnErr, Ok};
-ghost use Rattle.otn_ports.specs.Bytes.{before, read, HasFailed};
+ghost use Rattle.otn_ports.specs.Bytes.{before, read_by, HasFailed};
 ghost use Rattle.otn_ports.specs.Reads.{HasEnded, ended_after};
 
 /// A call of a port failed.
@@ -27,7 +27,7 @@ pub trait Source: Drop {
     /// then no byte is gone. A call that answers otherwise leaves the count as it was.
     fn read(&mut self, into: &mut [u8]) -> Result<usize, Failed>
         ensures bound { IfOk result (λ n. n ≤ length into.old) }
-        ensures bytes { left self.old ≡ before (read result into.new) (left self.new) }
+        ensures bytes { left self.old ≡ before (read_by result into.new) (left self.new) }
         ensures end { result ≡ Ok 0 → 0 < length into.old → HasEnded (left self.new) (ended self.new) }
         ensures answered { ended self.new ≡ ended_after (length into.old) result (ended self.old) }
         ensures later { faults self.old ≤ faults self.new }

@@ -1,7 +1,7 @@
 // A source that spoils some of the bytes of another.
 ghost use Rattle.std.specs.Prelude.{◌≡◌, ◌<◌, ◌≤◌, true, Ok, IfOk, OnOk, OnErr, length, drop, vec_len};
 ghost use Rattle.std.specs.Option.{option_map};
-ghost use Rattle.otn_ports.specs.Bytes.{before, read, HasFailed};
+ghost use Rattle.otn_ports.specs.Bytes.{before, read_by, HasFailed};
 ghost use Rattle.otn_ports.specs.Reads.{HasEnded, ended_after};
 ghost use Rattle.otn_ports.specs.Spoiling.{rises_from, spoiled};
 
@@ -51,7 +51,7 @@ impl<S: Source> Source for SpoiledSource<S> {
 
     fn read(&mut self, into: &mut [u8]) -> Result<usize, Failed>
         ensures bound { IfOk result (λ n. n ≤ length into.old) }
-        ensures bytes { spoiled_left S.left self.old ≡ before (read result into.new) (spoiled_left S.left self.new) }
+        ensures bytes { spoiled_left S.left self.old ≡ before (read_by result into.new) (spoiled_left S.left self.new) }
         ensures end { result ≡ Ok 0 → 0 < length into.old
             → HasEnded (spoiled_left S.left self.new) (spoiled_ended S.ended self.new) }
         ensures answered { spoiled_ended S.ended self.new

@@ -5,7 +5,7 @@ use Rattle.otn_ports.specs.Reads.{HasEnded}
 use Rattle.otn_ports.proofs.GivenLaws.{Beyond, given_of_gave, dead_not_live}
 use Rattle.packet_text.specs.TextLines.{full_lines, text_of_dead}
 use Rattle.packet_text.specs.LinesStand.{may_be}
-use Rattle.packet_text.specs.Laws.{GivenIsAmong}
+use Rattle.packet_text.specs.Laws.{AvailableIsAmong}
 use Rattle.packet_text.specs.declared.line.Line.{Line}
 use Rattle.packet_text.specs.declared.line.Line.TheVariants.{Packet, End, Bad, Lost}
 use Rattle.packet_text.proofs.Texts.{full_lines-front}
@@ -36,7 +36,7 @@ among false Lost read available rest parts none end alive = absurd (alive refl)
 dead_text : (ended : Bool) (a : Line) (read available : List ℕ) → ended ≡ false → a ≡ Lost → available ≡ read → may_be ended a read (text_of_dead available)
 dead_text ended a read available e f g = rw (e, f, g) refl
 
-pub given_among : GivenIsAmong
+pub given_among : AvailableIsAmong
 given_among = λ first now read available packets view h given_is.
     let b = given_of_gave first now read available h.gave given_is in (
       λ alive. among view.ended view.answer read available b.rest b.parts (λ e. nothing_left now b.rest b.live b.other (h.over e)) h.ended alive,

@@ -5,7 +5,7 @@ use Rattle.otn_ports.specs.Given.{Gave, DiedUnended}
 use Rattle.otn_ports.proofs.GivenLaws.{dead_not_live, gave_none}
 use Rattle.packet_text.specs.TextLines.{lines_of, full_lines, text_of_dead}
 use Rattle.packet_text.specs.PacketText.{Ended, packets_of, packets_behind, empty_lines, shows_bad}
-use Rattle.packet_text.specs.LinesStand.{LinesView, Begins, GoesOnWith, HasBad, may_be, GoesOn, came_short, asked_for, ReadAsNeeded, LinesStand, TakeStands, fresh_lines, given_by, is_packet}
+use Rattle.packet_text.specs.LinesStand.{LinesView, Begins, GoesOnWith, HasBad, may_be, GoesOn, read_short, asked_for, ReadAsNeeded, LinesStand, TakeStands, fresh_lines, given_by, is_packet}
 use Rattle.packet_text.specs.Steps.Finding.{Reaches, Seeks, Finds, answer_of, with_answer}
 use Rattle.packet_text.specs.declared.line.Line.{Line}
 use Rattle.packet_text.specs.declared.line.Line.TheVariants as line
@@ -205,7 +205,7 @@ lost_stands first is all packets new gave same live dead still whole needed = rw
 -- behind an answer Packet one packet more is sought
 seeks_on : {first was : InView} {read : List ℕ} {packets : List (List ℕ)} {old : LinesView} → old.answer ≡ line.Packet → LinesStand first was read packets old → Seeks first read packets old was
 seeks_on {read = read} {packets = packets} {old = old} going h =
-    let P : Line → Type 0 = λ a. ReadAsNeeded (came_short old.ended a) (asked_for a (length packets)) read in
+    let P : Line → Type 0 = λ a. ReadAsNeeded (read_short old.ended a) (asked_for a (length packets)) read in
     let needed : ReadAsNeeded old.ended (length packets) read = subst P going h.needed in
     record {
       reaches = record { gave = h.gave; over = h.over; unended = h.unended; alive = h.alive (λ e. let p = going in cc); needed = more_asked old.ended (length packets) (length packets + 1) read (omega arith) needed };

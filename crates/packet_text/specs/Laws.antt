@@ -22,7 +22,7 @@ ReadsBack = (packets : List (List ℕ)) → All IsPacket packets
 
 -- What a place that tells its bytes gave in the whole run is among the texts that it may have; of a place that died,
 -- what is left of it.
-abbrev pub GivenIsAmong : Type 0
-GivenIsAmong = (first now : InView) (read available : List ℕ) (packets : List (List ℕ)) (view : LinesView)
+abbrev pub AvailableIsAmong : Type 0
+AvailableIsAmong = (first now : InView) (read available : List ℕ) (packets : List (List ℕ)) (view : LinesView)
     → LinesStand first now read packets view → HadToGive first now available
     → (view.answer ≢ Lost → MayBe view read available) × (view.answer ≡ Lost → MayBe view read (text_of_dead available))

@@ -83,11 +83,11 @@ pub record GoesOn (read : List ℕ) (packets : List (List ℕ)) (view : LinesVie
   pub blocks : view.ended ≡ false → length read % 4096 ≡ 0
 
 -- whether the last read came short, at the place's end or its death
-abbrev pub came_short : Bool → Line → Bool
-came_short ended Packet = ended
-came_short ended End = ended
-came_short ended (Bad n) = ended
-came_short ended Lost = true
+abbrev pub read_short : Bool → Line → Bool
+read_short ended Packet = ended
+read_short ended End = ended
+read_short ended (Bad n) = ended
+read_short ended Lost = true
 
 -- how many packets were asked for, when these were given: once there is no more packet, one more
 abbrev pub asked_for : Line → (packets : ℕ) → ℕ
@@ -124,7 +124,7 @@ pub record LinesStand (first now : InView) (read : List ℕ) (packets : List (Li
   pub goes : view.answer ≡ Packet → GoesOn read packets view
   pub told : (text : List ℕ) → MayBe view read text → Told view.answer packets (packets_of text)
   pub shown : (n : ℕ) → view.answer ≡ Bad n → view.ended ≡ false → shows_bad read ≡ true
-  pub needed : ReadAsNeeded (came_short view.ended view.answer) (asked_for view.answer (length packets)) read
+  pub needed : ReadAsNeeded (read_short view.ended view.answer) (asked_for view.answer (length packets)) read
   pub near : view.answer ≡ Packet → length view.hand < 4096
 
 -- what the lines of a place are before anything was read

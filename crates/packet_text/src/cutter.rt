@@ -152,7 +152,7 @@ impl Cutter {
     // Reads the next block, and says whether the place lives on or was not live.
     fn read_block<P: Source>(&mut self, place: &mut InPlaceOf<P>) -> bool
         requires { self.old.ended ≡ false }
-        ensures further { result ≡ true → BlockCame (cut_view self.old) (in_view P.Source place.old) (cut_view self.new)
+        ensures block { result ≡ true → BlockCame (cut_view self.old) (in_view P.Source place.old) (cut_view self.new)
             (in_view P.Source place.new) }
         ensures lost { result ≡ false → BlockLost (in_view P.Source place.old) (in_view P.Source place.new) }
         ensures rests { result ≡ false → cut_view self.new ≡ record (cut_view self.old) { hand = [] } }

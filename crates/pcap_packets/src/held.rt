@@ -1,6 +1,6 @@
 // Bytes that wait in a buffer.
 ghost use Rattle.std.specs.Prelude.{◌≡◌, ◌≢◌, ◌↔◌, ◌<◌, ◌≤◌, ◌+◌, ◌*◌, ◌/◌, ◌%◌, ◌++◌, [], IfOk, OnErr, OnOk, Ok, true, length, min, take, drop, vec_len};
-ghost use Rattle.otn_ports.specs.Bytes.{before, taken, HasFailed};
+ghost use Rattle.otn_ports.specs.Bytes.{before, read_by, HasFailed};
 ghost use Rattle.otn_ports.specs.Reads.{HasEnded};
 ghost use Rattle.packet_text.specs.PacketText.{packet_line};
 ghost use Rattle.pcap_packets.specs.Written.{all_lower, packet_of, record_of};
@@ -181,7 +181,7 @@ impl Held {
     /// Writes them to a sink, from the front, until none is left or a call fails. Failed as the sink does, and then
     /// some are left.
     pub(crate) fn drain<S: Sink>(&mut self, sink: &mut S) -> Result<(), Failed>
-        ensures written { Went (held self.old) (S.got sink.old) (held self.new) (S.got sink.new) }
+        ensures sent { Went (held self.old) (S.got sink.old) (held self.new) (S.got sink.new) }
         ensures whole { OnOk result (held self.new ≡ []) }
         ensures part { OnErr result (held self.new ≢ []) }
         ensures later { S.faults sink.old ≤ S.faults sink.new }
@@ -252,7 +252,7 @@ fn ask_behind<S: Source>(source: &mut S, buffer: &mut [u8], end: usize) -> Resul
     requires { end < length buffer.old }
     ensures front { take end buffer.new ≡ take end buffer.old }
     ensures bound { IfOk result (λ n. end + n ≤ length buffer.old) }
-    ensures bytes { S.left source.old ≡ before (taken result (drop end buffer.new)) (S.left source.new) }
+    ensures bytes { S.left source.old ≡ before (read_by result (drop end buffer.new)) (S.left source.new) }
     ensures end { result ≡ Ok 0 → HasEnded (S.left source.new) (S.ended source.new) }
     ensures later { S.faults source.old ≤ S.faults source.new }
     ensures cause { OnErr result (HasFailed (S.faults source.old) (S.faults source.new)) }

@@ -1,7 +1,7 @@
 // A source that gives the packets of a capture as lines of hex digits.
 ghost use Rattle.std.specs.Prelude.{◌≡◌, ◌<◌, ◌≤◌, false, Ok, IfOk, OnOk, OnErr, length};
 ghost use Rattle.std.specs.Option.{option_map};
-ghost use Rattle.otn_ports.specs.Bytes.{before, taken, HasFailed};
+ghost use Rattle.otn_ports.specs.Bytes.{before, HasFailed};
 ghost use Rattle.otn_ports.specs.Reads.{HasEnded, ended_after};
 ghost use Rattle.pcap_packets.specs.CaptureText.{capture_text};
 ghost use Rattle.pcap_packets.specs.Captures.{capture_left, capture_ended, capture_faults};

@@ -29,7 +29,7 @@ use Rattle.protect_selector.specs.declared.side.Choice.{Choice}
 use Rattle.protect_selector.specs.declared.side.Side.{Side}
 use Rattle.protect_selector.specs.declared.side.Side.TheVariants.{Working, Protection}
 use Rattle.protect_selector.specs.Selected.{BothTurn, Selection, is_up, choice_after, choice_in, selection, selection_after}
-use Rattle.protect_selector.specs.OfLines.{both_turn, turns_before, choice_at, bytes_of, given_on, given_before, switch_line, switch_text, switch_text_at}
+use Rattle.protect_selector.specs.OfLines.{both_turn, turns_before, choice_at, bytes_of, due_at, due_before, switch_line, switch_text, switch_text_at}
 use Rattle.protect_selector.specs.Carried.{StaysWhileCarried, CarriesTwoLater, IsApart}
 use Rattle.protect_selector.proofs.Turns.{selection_next, selection_start}
 use Rattle.protect_selector.proofs.ProtectEnds.{given_many}
@@ -44,22 +44,22 @@ record IsStill (before : Selection) : Type 0 where
   side : before.side ≡ Working
   to_skip : before.to_skip ≡ 0
 
-stays_by : (m n to_skip emitted : ℕ) (now : BothTurn) (past : List BothTurn) → to_skip ≡ 0 → is_up now.working.state ≡ true
-    → choice_after m n (record { side = Working; to_skip = to_skip; emitted = emitted }) now past ≡ still
-stays_by m n to_skip emitted now past none up = rw (up, none) (by_min (min 0 now.working.bytes) (omega arith))
+stays_by : (m n to_skip due : ℕ) (now : BothTurn) (past : List BothTurn) → to_skip ≡ 0 → is_up now.working.state ≡ true
+    → choice_after m n (record { side = Working; to_skip = to_skip; due = due }) now past ≡ still
+stays_by m n to_skip due now past none up = rw (up, none) (by_min (min 0 now.working.bytes) (omega arith))
   where
     by_min : (k : ℕ) → k ≡ 0 → ◌≡◌ {A = Choice} (record { side = Working; skip = k; cause = None }) still
     by_min k e = rw e refl
 
 stays : (m n : ℕ) (before : Selection) (now : BothTurn) (past : List BothTurn) → IsStill before → is_up now.working.state ≡ true → choice_after m n before now past ≡ still
 stays m n before now past is up =
-    subst (λ side. choice_after m n (record { side = side; to_skip = before.to_skip; emitted = before.emitted }) now past ≡ still) (sym is.side)
-    (stays_by m n before.to_skip before.emitted now past is.to_skip up)
+    subst (λ side. choice_after m n (record { side = side; to_skip = before.to_skip; due = before.due }) now past ≡ still) (sym is.side)
+    (stays_by m n before.to_skip before.due now past is.to_skip up)
 
 still_after : (m n : ℕ) (before : Selection) (now : BothTurn) (past : List BothTurn) → IsStill before → is_up now.working.state ≡ true → IsStill (selection_after m n before now past)
 still_after m n before now past is up =
     let none = is.to_skip in
-    subst (λ side. is_up now.working.state ≡ true → IsStill (selection_after m n (record { side = side; to_skip = before.to_skip; emitted = before.emitted }) now past)) (sym is.side)
+    subst (λ side. is_up now.working.state ≡ true → IsStill (selection_after m n (record { side = side; to_skip = before.to_skip; due = before.due }) now past)) (sym is.side)
     (λ up. rw up (record { side = refl; to_skip = omega arith })) up
 
 past_views : (own : Tributary) (w : List ℕ) (n : ℕ) → past_of (view_at own w) 0 n ≡ views_until own w n
@@ -83,14 +83,14 @@ still_at own n bytes numbers w p u (suc t) arrives low =
     (still_at own n bytes numbers w p u t arrives (omega arith)) (up_in own bytes numbers w u t arrives (omega arith)))
 
 pub stays_while_carried : StaysWhileCarried
-unfolding choice_at given_on
+unfolding choice_at due_at
 stays_while_carried own n bytes numbers w p u arrives t low =
     let m = length own.slots in
     let past = turns_before own w p t in
     let same : choice_at own n w p t ≡ still = stays m n (selection m n past) (both_turn own w p t) past (still_at own n bytes numbers w p u t arrives (omega arith)) (up_in own bytes numbers w u t arrives low) in
     record {
       choice = same;
-      emitted = ap (λ (c : Choice). drop c.skip (emitted_at own (bytes_of c.side w p) t)) same;
+      due = ap (λ (c : Choice). drop c.skip (emitted_at own (bytes_of c.side w p) t)) same;
     }
 
 -- ---- what goes on
@@ -103,22 +103,22 @@ emission_of own w t =
 
 -- the emissions of the working sink go on, one by one
 record GoOn (own : Tributary) (n : ℕ) (w p : List ℕ) (t : ℕ) : Type 0 where
-  bytes : concat (given_before own n w p t) ≡ joined_back (emissions own (signal_byte Ais) (past_of (view_at own w) 0 t))
-  counts : lengths_of (given_before own n w p t) ≡ lengths_back (emissions own (signal_byte Ais) (past_of (view_at own w) 0 t))
+  bytes : concat (due_before own n w p t) ≡ joined_back (emissions own (signal_byte Ais) (past_of (view_at own w) 0 t))
+  counts : lengths_of (due_before own n w p t) ≡ lengths_back (emissions own (signal_byte Ais) (past_of (view_at own w) 0 t))
 
 go_on : (own : Tributary) (n : ℕ) (bytes numbers w p : List ℕ) (u t : ℕ) → Arrives own bytes numbers (view_at own w) 0 0 0 u → t ≤ u + 1 → GoOn own n w p t
-unfolding given_before
+unfolding due_before
 go_on own n bytes numbers w p u zero arrives low = record { bytes = refl; counts = refl }
 go_on own n bytes numbers w p u (suc t) arrives low =
     let before = go_on own n bytes numbers w p u t arrives (omega arith) in
-    let now : given_on own n w p t ≡ emission own (signal_byte Ais) (past_of (view_at own w) 0 t) (view_at own w (0 + t)) =
-    (stays_while_carried own n bytes numbers w p u arrives t (omega arith)).emitted ∙ sym (emission_of own w t) in
+    let now : due_at own n w p t ≡ emission own (signal_byte Ais) (past_of (view_at own w) 0 t) (view_at own w (0 + t)) =
+    (stays_while_carried own n bytes numbers w p u arrives t (omega arith)).due ∙ sym (emission_of own w t) in
     record {
-      bytes = concat-append (given_before own n w p t) (given_on own n w p t ∷ [])
-          ∙ ap (λ xs. xs ++ concat (given_on own n w p t ∷ [])) before.bytes
-          ∙ ap (λ xs. joined_back (emissions own (signal_byte Ais) (past_of (view_at own w) 0 t)) ++ xs) (append-nil (given_on own n w p t) ∙ now);
-      counts = map-append length (given_before own n w p t) (given_on own n w p t ∷ [])
-          ∙ ap (λ xs. xs ++ length (given_on own n w p t) ∷ []) before.counts
+      bytes = concat-append (due_before own n w p t) (due_at own n w p t ∷ [])
+          ∙ ap (λ xs. xs ++ concat (due_at own n w p t ∷ [])) before.bytes
+          ∙ ap (λ xs. joined_back (emissions own (signal_byte Ais) (past_of (view_at own w) 0 t)) ++ xs) (append-nil (due_at own n w p t) ∙ now);
+      counts = map-append length (due_before own n w p t) (due_at own n w p t ∷ [])
+          ∙ ap (λ xs. xs ++ length (due_at own n w p t) ∷ []) before.counts
           ∙ ap (λ xs. lengths_back (emissions own (signal_byte Ais) (past_of (view_at own w) 0 t)) ++ length xs ∷ []) now;
     }
 
@@ -162,7 +162,7 @@ carries_two_later own n b bytes numbers w p frames u sends size port arrives fil
     let m = length own.slots in
     let q = 0 ∷ 0 ∷ numbers in
     let ais = signal_byte Ais in
-    let turns = given_before own n w p (suc u) in
+    let turns = due_before own n w p (suc u) in
     let on = go_on own n bytes numbers w p u (suc u) arrives (omega arith) in
     let joined : concat turns ≡ take (sent numbers (suc u - 2)) bytes = on.bytes ∙ joins own ais bytes numbers (view_at own w) 0 u (suc u) arrives (omega arith) in
     let counts : lengths_of turns ≡ take (suc u) q = on.counts ∙ as_many own ais bytes numbers (view_at own w) 0 u (suc u) arrives (omega arith) in
@@ -217,18 +217,18 @@ same_side : (own : Tributary) (side : Side) (w w' p p' : List ℕ) (t : ℕ) →
 same_side own Working w w' p p' t trib one two = same_emitted own w w' t trib one
 same_side own Protection w w' p p' t trib one two = same_emitted own p p' t trib two
 
-same_on : (own : Tributary) (n : ℕ) (w w' p p' : List ℕ) (t : ℕ) → IsTributary own → AgreeOnTributary own w w' → AgreeOnTributary own p p' → given_on own n w p t ≡ given_on own n w' p' t
-unfolding given_on
+same_on : (own : Tributary) (n : ℕ) (w w' p p' : List ℕ) (t : ℕ) → IsTributary own → AgreeOnTributary own w w' → AgreeOnTributary own p p' → due_at own n w p t ≡ due_at own n w' p' t
+unfolding due_at
 same_on own n w w' p p' t trib one two =
     ap (λ (c : Choice). drop c.skip (emitted_at own (bytes_of c.side w p) t)) (same_choice own n w w' p p' t trib one two)
     ∙ ap (drop (choice_at own n w' p' t).skip) (same_side own (choice_at own n w' p' t).side w w' p p' t trib one two)
 
 pub is_apart : IsApart
-unfolding given_before switch_text
+unfolding due_before switch_text
 is_apart own n w w' p p' zero trib one two = (refl, refl)
 is_apart own n w w' p p' (suc t) trib one two =
     let before = is_apart own n w w' p p' t trib one two in (
-      ap (λ xs. xs ++ given_on own n w p t ∷ []) before.0 ∙ ap (λ x. given_before own n w' p' t ++ x ∷ []) (same_on own n w w' p p' t trib one two),
+      ap (λ xs. xs ++ due_at own n w p t ∷ []) before.0 ∙ ap (λ x. due_before own n w' p' t ++ x ∷ []) (same_on own n w w' p p' t trib one two),
       ap (λ text. text ++ switch_text_at own n w p t) before.1
           ∙ ap (λ (c : Choice). switch_text own n w' p' t ++ switch_line t c.side c.cause) (same_choice own n w w' p p' t trib one two),
     )

@@ -9,25 +9,25 @@ pub added_is : (count bytes m : ℕ) → (count % m + bytes) % m ≡ (count + by
 added_is count bytes m = mod-add-mod count m bytes
 
 -- what was given on is as much as what came with what is still to be skipped: so it stays
-pub still_aligned : (m arrived skip emitted bytes : ℕ) → emitted % m ≡ (arrived + skip) % m
-    → (emitted + (bytes - min skip bytes)) % m ≡ (arrived + bytes + (skip - min skip bytes)) % m
-still_aligned m arrived skip emitted bytes e =
-    let turned : arrived + skip + (bytes - min skip bytes) ≡ arrived + bytes + (skip - min skip bytes) = omega arith in
-    sym (mod-add-mod emitted m (bytes - min skip bytes))
+pub still_aligned : (m emitted skip due bytes : ℕ) → due % m ≡ (emitted + skip) % m
+    → (due + (bytes - min skip bytes)) % m ≡ (emitted + bytes + (skip - min skip bytes)) % m
+still_aligned m emitted skip due bytes e =
+    let turned : emitted + skip + (bytes - min skip bytes) ≡ emitted + bytes + (skip - min skip bytes) = omega arith in
+    sym (mod-add-mod due m (bytes - min skip bytes))
     ∙ ap (λ x. (x + (bytes - min skip bytes)) % m) e
-    ∙ mod-add-mod (arrived + skip) m (bytes - min skip bytes)
+    ∙ mod-add-mod (emitted + skip) m (bytes - min skip bytes)
     ∙ ap (λ x. x % m) turned
 
 -- and so it is from a switch on
-pub aligned_at_switch : (m arrived emitted : ℕ) → 0 < m → emitted % m ≡ (arrived + (emitted + (m - arrived % m)) % m) % m
-aligned_at_switch m arrived emitted pos =
-    let low : arrived % m < m = mod-lt arrived pos in
-    let whole : arrived % m + (emitted + (m - arrived % m)) ≡ emitted + m = omega arith in
+pub aligned_at_switch : (m emitted due : ℕ) → 0 < m → due % m ≡ (emitted + (due + (m - emitted % m)) % m) % m
+aligned_at_switch m emitted due pos =
+    let low : emitted % m < m = mod-lt emitted pos in
+    let whole : emitted % m + (due + (m - emitted % m)) ≡ due + m = omega arith in
     sym (
-    add-mod-mod arrived (emitted + (m - arrived % m)) m
-    ∙ sym (mod-add-mod arrived m (emitted + (m - arrived % m)))
+    add-mod-mod emitted (due + (m - emitted % m)) m
+    ∙ sym (mod-add-mod emitted m (due + (m - emitted % m)))
     ∙ ap (λ x. x % m) whole
-    ∙ add-mod_right emitted m
+    ∙ add-mod_right due m
     )
 
 -- a sum of numbers below m, modulo m
@@ -47,16 +47,16 @@ quotients : (m x y : ℕ) → 0 < m → x ≤ y → x / m ≤ y / m
 quotients m x y pos h = let whole : x / m * m ≤ x = div-mul-le_self x m in le-div (x / m) y m pos (omega arith)
 
 -- what is given on completes no more groups than what came
-pub no_more_groups : (m arrived skip emitted bytes : ℕ) → arrived < m → skip < m → emitted < m → emitted ≡ (arrived + skip) % m
-    → (emitted + (bytes - min skip bytes)) / m ≤ (arrived + bytes) / m
-no_more_groups m arrived skip emitted bytes lc ls lg e = elim (leb_tells bytes skip) [
+pub no_more_groups : (m emitted skip due bytes : ℕ) → emitted < m → skip < m → due < m → due ≡ (emitted + skip) % m
+    → (due + (bytes - min skip bytes)) / m ≤ (emitted + bytes) / m
+no_more_groups m emitted skip due bytes lc ls lg e = elim (leb_tells bytes skip) [
   | inl few ↦
-      let none : (emitted + (bytes - min skip bytes)) / m ≡ 0 = div-eq_of_lt (let u = few.1 in let f : emitted + (bytes - min skip bytes) < m = omega arith in f) in
+      let none : (due + (bytes - min skip bytes)) / m ≡ 0 = div-eq_of_lt (let u = few.1 in let f : due + (bytes - min skip bytes) < m = omega arith in f) in
       omega arith
   | inr more ↦
       let u = more.1 in
-      let small = small_sum m arrived skip emitted lc ls e in
-      let less : emitted + (bytes - min skip bytes) ≤ arrived + bytes = omega arith in
+      let small = small_sum m emitted skip due lc ls e in
+      let less : due + (bytes - min skip bytes) ≤ emitted + bytes = omega arith in
       quotients m _ _ (let f : 0 < m = omega arith in f) less
 ]
 
@@ -68,10 +68,10 @@ groups_of_sum m x y pos =
     ap (λ z. z / m) whole ∙ mul-add-div pos (x / m) (x % m + y)
 
 -- the same of totals
-pub no_more_in_total : (m arrived skip emitted bytes most : ℕ) → 0 < m → skip < m → emitted % m ≡ (arrived + skip) % m → (arrived + bytes) / m ≤ arrived / m + most
-    → (emitted + (bytes - min skip bytes)) / m ≤ emitted / m + most
-no_more_in_total m arrived skip emitted bytes most pos ls e fits =
-    let one = groups_of_sum m arrived bytes pos in
-    let two = groups_of_sum m emitted (bytes - min skip bytes) pos in
-    let less = no_more_groups m (arrived % m) skip (emitted % m) bytes (mod-lt arrived pos) ls (mod-lt emitted pos) (e ∙ sym (mod-add-mod arrived m skip)) in
+pub no_more_in_total : (m emitted skip due bytes most : ℕ) → 0 < m → skip < m → due % m ≡ (emitted + skip) % m → (emitted + bytes) / m ≤ emitted / m + most
+    → (due + (bytes - min skip bytes)) / m ≤ due / m + most
+no_more_in_total m emitted skip due bytes most pos ls e fits =
+    let one = groups_of_sum m emitted bytes pos in
+    let two = groups_of_sum m due (bytes - min skip bytes) pos in
+    let less = no_more_groups m (emitted % m) skip (due % m) bytes (mod-lt emitted pos) ls (mod-lt due pos) (e ∙ sym (mod-add-mod emitted m skip)) in
     omega arith

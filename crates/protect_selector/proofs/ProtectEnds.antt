@@ -21,13 +21,13 @@ use Rattle.tributary_line.specs.Settling.{ended_by}
 use Rattle.tributary_line.proofs.Endings.{ends_by}
 use Rattle.otn_ports.specs.Asked.{ByteAnswer, has_come}
 use Rattle.device_model.specs.LineAsked.{is_seen, MayHave, InputLeft}
-use Rattle.device_model.specs.Moments.{line_taken}
+use Rattle.device_model.specs.Moments.{line_read}
 use Rattle.device_model.proofs.SettledLines.{may_at_end, end_of_line, line_left, EndOfLine}
 use Rattle.otn_ports.specs.declared.ended.Ended.{Ended}
 use Rattle.otn_ports.specs.declared.ended.Ended.TheVariants.{ReportFault}
 use Rattle.protect_selector.specs.declared.protecting.Protecting.{Protecting}
 use Rattle.protect_selector.specs.Selector.{HasChosen}
-use Rattle.protect_selector.specs.OfLines.{turns_before, given_on, given_before, switch_text}
+use Rattle.protect_selector.specs.OfLines.{turns_before, due_at, due_before, switch_text}
 use Rattle.protect_selector.specs.Protecting.{Ends, OnlyProtected, ends_of}
 use Rattle.protect_selector.specs.Steps.Protecting.{Stands, StandsLost, TurnGone, TurnsGone, SettledAs, AreReady, has_dead}
 use Rattle.protect_selector.specs.ProtectLeft.{HasMore, IsCut, OutputDue, AllDone, LeftSo, ProtectRan}
@@ -39,9 +39,9 @@ pub settled_by : (parts : Protecting) (was mid is : BaysView) (report : SinkView
     → line ≡ parts.working.line → line' ≡ parts.protection.line → ByteAnswer (not (is_seen line.reader.ending)) x x' answer → ByteAnswer (not (is_seen line'.reader.ending)) y y' answer'
     → dead ≡ has_dead (ends_of is report) → more ≡ (answer || answer') → ended ≡ ended_by dead more → SettledAs parts (ends_of was report) (ends_of is report) ended
 settled_by parts was mid is report x y x' y' line line' answer answer' dead more ended seen l l' one two d m e = record {
-  working_read = one.further;
+  working_further = one.further;
   working_asked = rw (seen.working_was, seen.working_is, sym l) one.asked;
-  protection_read = two.further;
+  protection_further = two.further;
   protection_asked = rw (seen.protection_was, seen.protection_is, sym l') two.asked;
   output = seen.output;
   report = refl;
@@ -104,20 +104,20 @@ there_more turns w p taken_w taken_p came_w came_p one two (inr more) = by_parts
 
 -- ---- what was due to the output
 
-pub given_many : (own : Tributary) (n : ℕ) (w p : List ℕ) (t : ℕ) → length (given_before own n w p t) ≡ t
-unfolding given_before
+pub given_many : (own : Tributary) (n : ℕ) (w p : List ℕ) (t : ℕ) → length (due_before own n w p t) ≡ t
+unfolding due_before
 given_many own n w p zero = refl
-given_many own n w p (suc t) = let before = given_many own n w p t in omega (arith, length-append (given_before own n w p t) (given_on own n w p t ∷ []))
+given_many own n w p (suc t) = let before = given_many own n w p t in omega (arith, length-append (due_before own n w p t) (due_at own n w p t ∷ []))
 
-output_due : (own : Tributary) (n : ℕ) (w p : List ℕ) (t : ℕ) (first last : Ends) (feed : FeedView) → FeedStands own first.output last.output (given_before own n w p t) feed
-    → OutputDue own (given_before own n w p t) t first last
+output_due : (own : Tributary) (n : ℕ) (w p : List ℕ) (t : ℕ) (first last : Ends) (feed : FeedView) → FeedStands own first.output last.output (due_before own n w p t) feed
+    → OutputDue own (due_before own n w p t) t first last
 output_due own n w p t first last feed fed =
     let has = fed.has in
     record {
       frames = has.made.made;
       file = record {
         puts = has.puts;
-        are_put = subst (λ k. AreTributaryFrames own (given_before own n w p t) (8 * k) has.puts) (given_many own n w p t) has.are_put;
+        are_put = subst (λ k. AreTributaryFrames own (due_before own n w p t) (8 * k) has.puts) (given_many own n w p t) has.are_put;
         are_frames = has.made.are_frames;
       };
       sent = has.made.sent;
@@ -136,8 +136,8 @@ pub all_done : (own : Tributary) (turns n : ℕ) (first mid last : Ends) (parts 
 all_done own turns n first mid last parts ended ready gone settled =
     let on_w = gone.stands.on_working.line in
     let on_p = gone.stands.on_protection.line in
-    let came_w = settled.working_read in
-    let came_p = settled.protection_read in
+    let came_w = settled.working_further in
+    let came_p = settled.protection_further in
     record {
       working = gone.working ++ came_w;
       protection = gone.protection ++ came_p;
@@ -156,7 +156,7 @@ all_done own turns n first mid last parts ended ready gone settled =
           (more_there turns w p gone.working gone.protection came_w came_p end_w end_p) (there_more turns w p gone.working gone.protection came_w came_p end_w end_p) in
           rw settled.answer
           (so_left (has_dead last) (has_come came_w || has_come came_p) own turns n 0 first last (gone.working ++ came_w) (gone.protection ++ came_p) w p (record {
-            output = output_due own n w p turns first last parts.feed (subst (λ out. FeedStands own first.output out (given_before own n w p turns) parts.feed) (sym settled.output) agrees.fed);
+            output = output_due own n w p turns first last parts.feed (subst (λ out. FeedStands own first.output out (due_before own n w p turns) parts.feed) (sym settled.output) agrees.fed);
             report = subst (SinkGot first.report (switch_text own n w p turns)) (sym settled.report) agrees.told;
             working_took = end_w.took;
             protection_took = end_p.took;
@@ -227,8 +227,8 @@ stopped_at own turns n t first last working protection parts ready less stands =
           report = agrees.told;
         },
         record {
-          of_working = took_is plain_otu2 first.working last.working working w (suc t) parts.working.line stands.on_working.line may_w ∙ ap (line_taken plain_otu2 w (suc t)) ready.working.pieces;
-          of_protection = took_is plain_otu2 first.protection last.protection protection p (suc t) parts.protection.line stands.on_protection.line may_p ∙ ap (line_taken plain_otu2 p (suc t)) ready.protection.pieces;
+          of_working = took_is plain_otu2 first.working last.working working w (suc t) parts.working.line stands.on_working.line may_w ∙ ap (line_read plain_otu2 w (suc t)) ready.working.pieces;
+          of_protection = took_is plain_otu2 first.protection last.protection protection p (suc t) parts.protection.line stands.on_protection.line may_p ∙ ap (line_read plain_otu2 p (suc t)) ready.protection.pieces;
         },
       );
 }
@@ -238,7 +238,7 @@ stopped_at own turns n t first last working protection parts ready less stands =
 -- before the first turn
 pub begins : (own : Tributary) (n : ℕ) (parts : Protecting) → ((first : InView) → TapStands own first first [] 0 parts.working) → ((first : InView) → TapStands own first first [] 0 parts.protection)
     → HasChosen (length own.slots) n [] parts.selector → ((first : OutView) → FeedStands own first first [] parts.feed) → (first : Ends) → TurnsGone own n first first 0 parts
-unfolding turns_before given_before switch_text
+unfolding turns_before due_before switch_text
 begins own n parts on_w on_p chosen fed first = record {
   working = [];
   protection = [];
@@ -254,14 +254,14 @@ pub one_more : (own : Tributary) (n t : ℕ) (first was is : Ends) (old new : Pr
     → TurnsGone own n first was t old → TurnsGone own n first is (t + 1) new
 one_more own n t first was is old new turn gone =
     let sent = turn gone.working gone.protection gone.stands in
-    rw (add-one t) (record { working = gone.working ++ sent.working_read; protection = gone.protection ++ sent.protection_read; stands = sent.left })
+    rw (add-one t) (record { working = gone.working ++ sent.working_further; protection = gone.protection ++ sent.protection_further; stands = sent.left })
 
 pub one_lost : (own : Tributary) (turns n t : ℕ) (first was is : Ends) (old new : Protecting) → AreReady new → t < turns
     → ((working protection : List ℕ) → Stands own n first was working protection t old → TurnGone written.Lost own n first is working protection t new)
     → TurnsGone own n first was t old → ProtectRan own turns n first is ReportFault
 one_lost own turns n t first was is old new ready less turn gone =
     let sent = turn gone.working gone.protection gone.stands in
-    stopped_at own turns n t first is (gone.working ++ sent.working_read) (gone.protection ++ sent.protection_read) new ready less sent.left
+    stopped_at own turns n t first is (gone.working ++ sent.working_further) (gone.protection ++ sent.protection_further) new ready less sent.left
 
 -- ---- the other places
 

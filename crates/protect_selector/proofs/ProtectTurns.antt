@@ -20,7 +20,7 @@ use Rattle.protect_selector.specs.declared.side.Side.TheVariants.{Working, Prote
 use Rattle.protect_selector.specs.declared.protecting.Protecting.{Protecting}
 use Rattle.protect_selector.specs.Selected.{BothTurn, of_side, choice_in}
 use Rattle.protect_selector.specs.Selector.{SelectorView, HasChosen}
-use Rattle.protect_selector.specs.OfLines.{both_turn, turns_before, choice_at, bytes_of, given_on, given_before, switch_line, switch_text, switch_text_at}
+use Rattle.protect_selector.specs.OfLines.{both_turn, turns_before, choice_at, bytes_of, due_at, due_before, switch_line, switch_text, switch_text_at}
 use Rattle.protect_selector.specs.Protecting.{Ends, OnlyProtected}
 use Rattle.protect_selector.specs.Steps.Protecting.{AgreesAfter, Stands, TurnGone}
 use Rattle.protect_selector.proofs.OfLines.{turns_next, given_next, completes_on}
@@ -83,7 +83,7 @@ turn_chosen own first was is x y x' y' w p t old tap_w tap_p ew ep sw sp wl pl c
 record Chooses (own : Tributary) (n : ℕ) (w p : List ℕ) (t : ℕ) (ew ep : List ℕ) (choice : Choice) (selector : SelectorView) : Type 0 where
   pub choice_is : choice ≡ choice_at own n w p t
   pub chosen : HasChosen (length own.slots) n (turns_before own w p (suc t)) selector
-  pub bytes : drop choice.skip (bytes_of choice.side ew ep) ≡ given_on own n w p t
+  pub bytes : drop choice.skip (bytes_of choice.side ew ep) ≡ due_at own n w p t
   pub line : switch_line t choice.side choice.cause ≡ switch_text_at own n w p t
 
 bytes_same : (side : Side) (x x' y y' : List ℕ) → x ≡ x' → y ≡ y' → bytes_of side x y ≡ bytes_of side x' y'
@@ -99,7 +99,7 @@ chooses : (own : Tributary) (n : ℕ) (w p : List ℕ) (t : ℕ) (old selector :
     → sw ≡ state_after own (views_until own w (t + 1)) → sp ≡ state_after own (views_until own p (t + 1))
     → ((m n : ℕ) (past : List BothTurn) → HasChosen m n past old → (choice ≡ choice_in m n (now_of sw sp (length ew) (length ep)) past) × HasChosen m n (now_of sw sp (length ew) (length ep) ∷ past) selector)
     → Chooses own n w p t ew ep choice selector
-unfolding choice_at given_on
+unfolding choice_at due_at
 chooses own n w p t old selector sw sp ew ep choice chosen e f g h picks =
     let past = turns_before own w p t in
     let now : now_of sw sp (length ew) (length ep) ≡ both_turn own w p t =
@@ -132,20 +132,20 @@ pub whole_turn : (own : Tributary) (n : ℕ) (first was is : Ends) (w p : List �
     → FeedStands own first.output is.output (turns ++ drop choice.skip (bytes_of choice.side ew ep) ∷ []) feed)
     → TurnGone written.Whole own n first is w p t (record { working = tap_w; protection = tap_p; selector = selector; feed = feed })
 whole_turn own n first was is w p t old tap_w tap_p ew ep choice selector feed trib stood done told fed = record {
-  working_read = done.moves_w.further;
-  protection_read = done.moves_p.further;
+  working_further = done.moves_w.further;
+  protection_further = done.moves_p.further;
   left = record {
     on_working = subst (λ k. TapStands own first.working is.working (w ++ done.moves_w.further) k tap_w) (add-one t) done.moves_w.stands;
     on_protection = subst (λ k. TapStands own first.protection is.protection (p ++ done.moves_p.further) k tap_p) (add-one t) done.moves_p.stands;
     holds = λ gw gp may_w may_p.
         let agrees = stood.holds gw gp (done.moves_w.earlier gw may_w) (done.moves_p.earlier gp may_p) in
         let chosen = chooses_of own n first was is.working is.protection w p t old tap_w tap_p ew ep choice selector done gw gp agrees may_w may_p in
-        let fits : Completes own (given_before own n gw gp t) (drop choice.skip (bytes_of choice.side ew ep)) =
-        subst (Completes own (given_before own n gw gp t)) (sym chosen.bytes) (completes_on own n gw gp t trib) in
-        let turns = ap (λ bytes. given_before own n gw gp t ++ bytes ∷ []) chosen.bytes ∙ sym (given_next own n gw gp t) in
+        let fits : Completes own (due_before own n gw gp t) (drop choice.skip (bytes_of choice.side ew ep)) =
+        subst (Completes own (due_before own n gw gp t)) (sym chosen.bytes) (completes_on own n gw gp t trib) in
+        let turns = ap (λ bytes. due_before own n gw gp t ++ bytes ∷ []) chosen.bytes ∙ sym (given_next own n gw gp t) in
         record {
           chosen = chosen.chosen;
-          fed = subst (λ turns. FeedStands own first.output is.output turns feed) turns (fed (given_before own n gw gp t) agrees.fed fits);
+          fed = subst (λ turns. FeedStands own first.output is.output turns feed) turns (fed (due_before own n gw gp t) agrees.fed fits);
           told = subst (λ text. SinkGot first.report text is.report) (ap (λ line. switch_text own n gw gp t ++ line) chosen.line ∙ sym (text_next own n gw gp t))
               (sink_got_twice first.report was.report is.report (switch_text own n gw gp t) (switch_line t choice.side choice.cause) agrees.told told.0);
         };
@@ -158,8 +158,8 @@ pub lost_turn : (own : Tributary) (n : ℕ) (first was is : Ends) (w p : List �
     → SinkWrites written.Lost was.report (switch_line t choice.side choice.cause) is.report
     → TurnGone written.Lost own n first is w p t (record { working = tap_w; protection = tap_p; selector = selector; feed = old.feed })
 lost_turn own n first was is w p t old tap_w tap_p ew ep choice selector stood done same told = record {
-  working_read = done.moves_w.further;
-  protection_read = done.moves_p.further;
+  working_further = done.moves_w.further;
+  protection_further = done.moves_p.further;
   left = record {
     on_working = subst (λ k. TapStands own first.working is.working (w ++ done.moves_w.further) k tap_w) (add-one t) done.moves_w.stands;
     on_protection = subst (λ k. TapStands own first.protection is.protection (p ++ done.moves_p.further) k tap_p) (add-one t) done.moves_p.stands;
@@ -167,7 +167,7 @@ lost_turn own n first was is w p t old tap_w tap_p ew ep choice selector stood d
         let agrees = stood.holds gw gp (done.moves_w.earlier gw may_w) (done.moves_p.earlier gp may_p) in
         let chosen = chooses_of own n first was is.working is.protection w p t old tap_w tap_p ew ep choice selector done gw gp agrees may_w may_p in
         record {
-          fed = subst (λ out. FeedStands own first.output out (given_before own n gw gp t) old.feed) (sym same) agrees.fed;
+          fed = subst (λ out. FeedStands own first.output out (due_before own n gw gp t) old.feed) (sym same) agrees.fed;
           written = told.0;
           part = subst (λ text. told.0 < length text) chosen.line told.1;
           told = subst (λ text. SinkGot first.report (switch_text own n gw gp t ++ take told.0 text) is.report) chosen.line

@@ -10,13 +10,13 @@ use Rattle.device_model.specs.Agreements.{AgreeOnTributary}
 use Rattle.device_model.specs.LineViews.{view_at, emitted_at}
 use Rattle.tributary_line.specs.TributaryFile.{IsTributaryFile}
 use Rattle.protect_selector.specs.declared.side.Side.TheVariants.{Working}
-use Rattle.protect_selector.specs.OfLines.{choice_at, given_on, given_before, switch_text}
+use Rattle.protect_selector.specs.OfLines.{choice_at, due_at, due_before, switch_text}
 
 -- Where the working line carries a sender's bytes in steady numbers from the first turn to turn u, there is no switch
 -- until then, whatever protection brings, and all that the working sink emits goes on.
 pub record Stays (own : Tributary) (n : ℕ) (w p : List ℕ) (t : ℕ) : Type 0 where
   pub choice : choice_at own n w p t ≡ record { side = Working; skip = 0; cause = None }
-  pub emitted : given_on own n w p t ≡ emitted_at own w t
+  pub due : due_at own n w p t ≡ emitted_at own w t
 
 abbrev pub StaysWhileCarried : Type 0
 StaysWhileCarried = (own : Tributary) (n : ℕ) (bytes numbers w p : List ℕ) (u : ℕ)
@@ -26,7 +26,7 @@ StaysWhileCarried = (own : Tributary) (n : ℕ) (bytes numbers w p : List ℕ) (
 abbrev pub CarriesTwoLater : Type 0
 CarriesTwoLater = (own : Tributary) (n b : ℕ) (bytes numbers w p : List ℕ) (frames : List (List ℕ)) (u : ℕ)
     → IsSent own → own.line_slots ≡ OTU2_SLOTS → 1 ≤ own.port → Arrives own bytes numbers (view_at own w) 0 0 0 u
-    → IsTributaryFile b own (given_before own n w p (suc u)) (OTU2_SLOTS * suc u) frames
+    → IsTributaryFile b own (due_before own n w p (suc u)) (OTU2_SLOTS * suc u) frames
     → Arrives own bytes (0 ∷ 0 ∷ numbers) (view_at own (concat frames)) 0 0 0 u
 
 -- What goes on, and what is told, is fixed by the own places of both lines and their MFAS bytes: on lines that agree on
@@ -34,4 +34,4 @@ CarriesTwoLater = (own : Tributary) (n b : ℕ) (bytes numbers w p : List ℕ) (
 abbrev pub IsApart : Type 0
 IsApart = (own : Tributary) (n : ℕ) (w w' p p' : List ℕ) (t : ℕ) → IsTributary own → AgreeOnTributary own w w'
     → AgreeOnTributary own p p'
-    → (given_before own n w p t ≡ given_before own n w' p' t) × (switch_text own n w p t ≡ switch_text own n w' p' t)
+    → (due_before own n w p t ≡ due_before own n w' p' t) × (switch_text own n w p t ≡ switch_text own n w' p' t)

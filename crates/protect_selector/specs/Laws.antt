@@ -3,7 +3,7 @@ use Rattle.std.specs.Prelude.{◌≡◌, ℕ, ◌+◌, ◌/◌, ◌%◌, ◌<◌
 use Rattle.protect_selector.specs.declared.side.Side.{Side}
 use Rattle.protect_selector.specs.declared.side.Side.TheVariants.{Working, Protection}
 use Rattle.protect_selector.specs.declared.side.SwitchCause.TheVariants.{Defect, Restored}
-use Rattle.protect_selector.specs.Selected.{BothTurn, of_side, other, is_up, turns_up, came_of, selection, choice_in}
+use Rattle.protect_selector.specs.Selected.{BothTurn, of_side, other, is_up, turns_up, emitted_by_side, selection, choice_in}
 
 -- a turn of both lines after which the sink of this side is Up
 abbrev pub IsUpIn : Side → BothTurn → Type 0
@@ -40,10 +40,10 @@ GivesAllOn = (m n : ℕ) (now : BothTurn) (past : List BothTurn)
 -- A side's groups of m bytes and those that are given on stay one behind the other.
 abbrev pub AreAligned : Type 0
 AreAligned = (m n : ℕ) (past : List BothTurn) → 0 < m
-    → (selection m n past).emitted % m ≡ (came_of (selection m n past).side past + (selection m n past).to_skip) % m
+    → (selection m n past).due % m ≡ (emitted_by_side (selection m n past).side past + (selection m n past).to_skip) % m
 
 -- A turn that is given on completes no more groups than its side's emission does.
 abbrev pub CompletesNoMore : Type 0
 CompletesNoMore = (m n most : ℕ) (now : BothTurn) (past : List BothTurn) → 0 < m
-    → came_of (choice_in m n now past).side (now ∷ past) / m ≤ came_of (choice_in m n now past).side past / m + most
-    → (selection m n (now ∷ past)).emitted / m ≤ (selection m n past).emitted / m + most
+    → emitted_by_side (choice_in m n now past).side (now ∷ past) / m ≤ emitted_by_side (choice_in m n now past).side past / m + most
+    → (selection m n (now ∷ past)).due / m ≤ (selection m n past).due / m + most

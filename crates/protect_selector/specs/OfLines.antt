@@ -41,16 +41,16 @@ bytes_of Working working protection = working
 bytes_of Protection working protection = protection
 
 -- the bytes given on in it
-unfoldable pub given_on : Tributary → (n : ℕ) → (working protection : List ℕ) → (t : ℕ) → List ℕ
-given_on own n working protection t =
+unfoldable pub due_at : Tributary → (n : ℕ) → (working protection : List ℕ) → (t : ℕ) → List ℕ
+due_at own n working protection t =
     let choice = choice_at own n working protection t in
     drop choice.skip (emitted_at own (bytes_of choice.side working protection) t)
 
 -- those of the turns before turn t, the first one first
-unfoldable pub given_before : Tributary → (n : ℕ) → (working protection : List ℕ) → (t : ℕ) → List (List ℕ)
-given_before own n working protection zero = []
-given_before own n working protection (suc t) = given_before own n working protection t
-    ++ given_on own n working protection t ∷ []
+unfoldable pub due_before : Tributary → (n : ℕ) → (working protection : List ℕ) → (t : ℕ) → List (List ℕ)
+due_before own n working protection zero = []
+due_before own n working protection (suc t) = due_before own n working protection t
+    ++ due_at own n working protection t ∷ []
 
 -- ---- the report
 

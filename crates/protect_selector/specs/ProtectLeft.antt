@@ -7,21 +7,21 @@ use Rattle.otn_ports.specs.Sent.{IsSent}
 use Rattle.otn_ports.specs.Views.{Dead}
 use Rattle.line_side.specs.LineForm.{plain_otu2}
 use Rattle.tributary_model.specs.Places.{Tributary}
-use Rattle.device_model.specs.Moments.{line_taken}
+use Rattle.device_model.specs.Moments.{line_read}
 use Rattle.tributary_line.specs.TributaryFile.{IsTributaryFile}
 use Rattle.device_model.specs.LineAsked.{MayHave, InputLeft}
-use Rattle.protect_selector.specs.OfLines.{given_before, switch_text, switch_text_at}
+use Rattle.protect_selector.specs.OfLines.{due_before, switch_text, switch_text_at}
 use Rattle.protect_selector.specs.Protecting.{Ends}
 use Rattle.otn_ports.specs.declared.ended.Ended.{Ended}
 use Rattle.otn_ports.specs.declared.ended.Ended.TheVariants.{Unfinished, Cut, ReportFault, Memory}
 
 -- a line that has more than so many turns want
 abbrev pub HasMore : (turns : ℕ) → (available : List ℕ) → Type 0
-HasMore turns available = line_taken plain_otu2 available turns 0 < length available
+HasMore turns available = line_read plain_otu2 available turns 0 < length available
 
 -- of a line was taken what so many turns want, and one byte more, or all that there is
-abbrev pub TookOf : (turns : ℕ) → (emitted read : List ℕ) → Type 0
-TookOf turns emitted read = length read ≡ min (length emitted) (suc (line_taken plain_otu2 emitted turns 0))
+abbrev pub TookOf : (turns : ℕ) → (available read : List ℕ) → Type 0
+TookOf turns available read = length read ≡ min (length available) (suc (line_read plain_otu2 available turns 0))
 
 -- a place of the command is dead
 abbrev pub IsCut : Ends → Type 0
@@ -36,7 +36,7 @@ pub record OutputDue (own : Tributary) (turns : List (List ℕ)) (count : ℕ) (
 -- where the report did not fail: all turns were done, and all lines written; the lines of both were taken
 pub record AllDone (own : Tributary) (turns n : ℕ) (first last : Ends) (ended : Ended)
     (working protection w p : List ℕ) : Type 0 where
-  pub output : OutputDue own (given_before own n w p turns) turns first last
+  pub output : OutputDue own (due_before own n w p turns) turns first last
   pub report : SinkGot first.report (switch_text own n w p turns) last.report
   pub working_took : TookOf turns w working
   pub protection_took : TookOf turns p protection
@@ -46,15 +46,15 @@ pub record AllDone (own : Tributary) (turns n : ℕ) (first last : Ends) (ended 
 -- Where it failed: that was at the line of the switch in turn t + 1, of which a part was written and not all, behind
 -- the lines before. The frames of the turns before were written.
 pub record StoppedIn (own : Tributary) (t n : ℕ) (first last : Ends) (w p : List ℕ) : Type 0 where
-  pub output : OutputDue own (given_before own n w p t) t first last
+  pub output : OutputDue own (due_before own n w p t) t first last
   pub written : ℕ
   pub part : written < length (switch_text_at own n w p t)
   pub report : SinkGot first.report (switch_text own n w p t ++ take written (switch_text_at own n w p t)) last.report
 
 -- That ended the command at once: of both lines was taken what the turns up to turn t + 1 want, and no more.
 pub record StoppedTaking (t : ℕ) (working protection w p : List ℕ) : Type 0 where
-  pub of_working : length working ≡ line_taken plain_otu2 w (suc t) 0
-  pub of_protection : length protection ≡ line_taken plain_otu2 p (suc t) 0
+  pub of_working : length working ≡ line_read plain_otu2 w (suc t) 0
+  pub of_protection : length protection ≡ line_read plain_otu2 p (suc t) 0
 
 -- by how the command ended, where the lines are these, of so many turns
 abbrev pub LeftSo : (ended : Ended) → Tributary → (turns n t : ℕ) → (first last : Ends)

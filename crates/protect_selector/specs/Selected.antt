@@ -65,26 +65,26 @@ side_by side (Some cause) = other side
 -- ---- what is given on
 
 -- how many bytes a side emitted in these turns
-abbrev pub came_of : Side → List BothTurn → ℕ
-came_of side [] = 0
-came_of side (now ∷ past) = came_of side past + (of_side side now).bytes
+abbrev pub emitted_by_side : Side → List BothTurn → ℕ
+emitted_by_side side [] = 0
+emitted_by_side side (now ∷ past) = emitted_by_side side past + (of_side side now).bytes
 
 -- after some turns: the side, how many of its next bytes are still to be skipped, and how many bytes were given on in
 -- all
 pub record Selection : Type 0 where
   pub side : Side
   pub to_skip : ℕ
-  pub emitted : ℕ
+  pub due : ℕ
 
 -- What is skipped of a side from a switch on, so that groups of m bytes stay whole: the number of bytes given on less
 -- that of the bytes that the side emitted before, modulo m.
-abbrev pub skip_at_switch : (m emitted arrived : ℕ) → ℕ
-skip_at_switch m emitted arrived = (emitted + (m - arrived % m)) % m
+abbrev pub skip_at_switch : (m due emitted : ℕ) → ℕ
+skip_at_switch m due emitted = (due + (m - emitted % m)) % m
 
 -- what is still to be skipped when a turn of this side begins
-abbrev pub to_skip_in : (m arrived : ℕ) → Option SwitchCause → Selection → ℕ
-to_skip_in m arrived None before = before.to_skip
-to_skip_in m arrived (Some cause) before = skip_at_switch m before.emitted arrived
+abbrev pub to_skip_in : (m emitted : ℕ) → Option SwitchCause → Selection → ℕ
+to_skip_in m emitted None before = before.to_skip
+to_skip_in m emitted (Some cause) before = skip_at_switch m before.due emitted
 
 -- the choice in a turn: as many are skipped as are to be, where the emission has so many
 abbrev pub choice_by : (to_skip bytes : ℕ) → Side → Option SwitchCause → Choice
@@ -94,20 +94,20 @@ abbrev pub choice_after : (m n : ℕ) → Selection → (now : BothTurn) → (pa
 choice_after m n before now past =
     let cause = cause_in n before.side now past in
     let side = side_by before.side cause in
-    choice_by (to_skip_in m (came_of side past) cause before) (of_side side now).bytes side cause
+    choice_by (to_skip_in m (emitted_by_side side past) cause before) (of_side side now).bytes side cause
 
 -- how it stands after that turn
 abbrev pub selection_after : (m n : ℕ) → Selection → (now : BothTurn) → (past : List BothTurn) → Selection
 selection_after m n before now past =
     let choice = choice_after m n before now past in record {
       side = choice.side;
-      to_skip = to_skip_in m (came_of choice.side past) choice.cause before - choice.skip;
-      emitted = before.emitted + ((of_side choice.side now).bytes - choice.skip);
+      to_skip = to_skip_in m (emitted_by_side choice.side past) choice.cause before - choice.skip;
+      due = before.due + ((of_side choice.side now).bytes - choice.skip);
     }
 
 -- the selection of m slots after these turns: working before the first
 unfoldable pub selection : (m n : ℕ) → List BothTurn → Selection
-selection m n [] = record { side = Working; to_skip = 0; emitted = 0 }
+selection m n [] = record { side = Working; to_skip = 0; due = 0 }
 selection m n (now ∷ past) = selection_after m n (selection m n past) now past
 
 -- what is chosen in the first of these turns

@@ -2,7 +2,7 @@
 ghost use Rattle.std.specs.Prelude.{◌≡◌, ◌+◌, ◌-◌, ◌/◌, ◌%◌, ◌<◌, ◌≤◌, ℕ, min, nat_le, List, [], ◌∷◌, Option, None, if◌then◌else◌};
 ghost use Rattle.otn_base.specs.declared.limits.TheConstants.{MOST_SLOTS};
 ghost use Rattle.protect_selector.specs.Selected.{BothTurn, of_side as of_side_in, other, is_up, choice_in, side_by};
-ghost use Rattle.protect_selector.specs.Selector.{HasChosen, came_in, number_by};
+ghost use Rattle.protect_selector.specs.Selector.{HasChosen, emitted_modulo, number_by};
 ghost use Rattle.protect_selector.specs.Steps.Selector.{state_by, cause_by, to_skip_by};
 
 use crate::side::{Choice, Side, SwitchCause};
@@ -18,7 +18,7 @@ pub struct Selector {
     side: Side,
     up: u32,
     skip: u32,
-    emitted: u32,
+    due: u32,
     working: u32,
     protection: u32,
 }
@@ -28,11 +28,11 @@ impl Model for Selector {
 
     ghost Value = { SelectorView };
 
-    ghost view = { λ s. record { m = s.slots; n = s.wait; side = s.side; up = s.up; skip = s.skip; emitted = s.emitted; working = s.working; protection = s.protection } };
+    ghost view = { λ s. record { m = s.slots; n = s.wait; side = s.side; up = s.up; skip = s.skip; due = s.due; working = s.working; protection = s.protection } };
 
-    ghost invariant = { λ s. IsSelector (record { m = s.slots; n = s.wait; side = s.side; up = s.up; skip = s.skip; emitted = s.emitted; working = s.working; protection = s.protection }) };
+    ghost invariant = { λ s. IsSelector (record { m = s.slots; n = s.wait; side = s.side; up = s.up; skip = s.skip; due = s.due; working = s.working; protection = s.protection }) };
 
-    ghost inverse = { λ s. record { slots = s.m; wait = s.n; side = s.side; up = s.up; skip = s.skip; emitted = s.emitted; working = s.working; protection = s.protection } };
+    ghost inverse = { λ s. record { slots = s.m; wait = s.n; side = s.side; up = s.up; skip = s.skip; due = s.due; working = s.working; protection = s.protection } };
 }
 
 impl Selector {
@@ -49,7 +49,7 @@ impl Selector {
             side: Side::Working,
             up: 0,
             skip: 0,
-            emitted: 0,
+            due: 0,
             working: 0,
             protection: 0,
         }
@@ -82,20 +82,20 @@ impl Selector {
               working = record { state = working; bytes = working_len };
               protection = record { state = protection; bytes = protection_len };
             } in
-            (self.old.emitted + ((of_side_in result.side now).bytes - result.skip)) / self.old.m ≤ (came_in result.side self.old + (of_side_in result.side now).bytes) / self.old.m }
+            (self.old.due + ((of_side_in result.side now).bytes - result.skip)) / self.old.m ≤ (emitted_modulo result.side self.old + (of_side_in result.side now).bytes) / self.old.m }
         ensures slots { self.new.m ≡ self.old.m }
     {
         let m = self.slots;
         self.up = turns_up(working, self.up, self.wait);
         let cause = cause_of(self.side, working, protection, self.up, self.wait);
         let side = side_by(self.side, cause);
-        let arrived = of_side(side, self.working, self.protection);
-        let to_skip = to_skip_in(m, arrived, cause, self.skip, self.emitted);
+        let emitted = of_side(side, self.working, self.protection);
+        let to_skip = to_skip_in(m, emitted, cause, self.skip, self.due);
         let bytes = bytes_of(side, working_len, protection_len);
         let skip = (to_skip as usize).min(bytes);
         self.side = side;
         self.skip = to_skip - skip as u32;
-        self.emitted = added(self.emitted, bytes - skip, m);
+        self.due = added(self.due, bytes - skip, m);
         self.working = added(self.working, working_len, m);
         self.protection = added(self.protection, protection_len, m);
         Choice { side, skip, cause }
@@ -170,15 +170,15 @@ fn bytes_of(side: Side, working: usize, protection: usize) -> usize
 }
 
 // What is to be skipped in a turn: what was still to be skipped, and anew after a switch.
-fn to_skip_in(m: u32, arrived: u32, cause: Option<SwitchCause>, skip: u32, emitted: u32) -> u32
+fn to_skip_in(m: u32, emitted: u32, cause: Option<SwitchCause>, skip: u32, due: u32) -> u32
     requires few { m ≤ MOST_SLOTS }
-    requires arrived { arrived < m }
     requires emitted { emitted < m }
-    ensures { result ≡ to_skip_by m arrived cause skip emitted }
+    requires due { due < m }
+    ensures { result ≡ to_skip_by m emitted cause skip due }
 {
     match cause {
         None => skip,
-        Some(_) => (emitted + (m - arrived)) % m,
+        Some(_) => (due + (m - emitted)) % m,
     }
 }
 

@@ -9,7 +9,7 @@ use Rattle.plan_file.specs.declared.plan.Plan.{Plan}
 use Rattle.device_model.specs.Inputs.{AreInputs}
 use Rattle.device_model.specs.Numbers.{OutputBytes}
 use Rattle.device_model.specs.Through.{Inputs}
-use Rattle.run_laws.specs.GivenRuns.{HasEmitted}
+use Rattle.run_laws.specs.GivenRuns.{TellsAvailable}
 use Rattle.device_model.specs.RunLeft.{MayBeInputs}
 use Rattle.run_laws.specs.RunsAlike.{World, ShareOne, LeftAlike}
 use Rattle.run_laws.specs.RunsThrough.{LeftThrough, CarriedIn}
@@ -55,7 +55,7 @@ abbrev pub HasRunItsPlan : Type 0
 HasRunItsPlan = (old new : Device) (asked now : ℕ) (reply : Status) → (answers : RunAnswers old new asked now reply)
     → CarriesPlan reply
     → (plan : Plan) × (ran : PlanRan plan old new asked now reply) × (plan_of_text answers.text ≡ Ok plan)
-    × ((inputs : Inputs) → HasEmitted plan old.bays new.bays → AreInputs plan old.bays new.bays inputs
+    × ((inputs : Inputs) → TellsAvailable plan old.bays new.bays → AreInputs plan old.bays new.bays inputs
     → MayBeInputs plan old.bays new.bays ran.takings inputs)
 
 -- ---- what they left
@@ -71,24 +71,24 @@ world_of call has = record {
   inputs = call.inputs;
 }
 
-abbrev pub went_of : (call : Call) → HasCarried call → OutputBytes
-went_of call has = (has.ran.left.of_inputs call.inputs has.may_be).written
+abbrev pub bytes_of_call : (call : Call) → HasCarried call → OutputBytes
+bytes_of_call call has = (has.ran.left.of_inputs call.inputs has.may_be).written
 
 -- Isolated: where two calls share a connection, and their inputs agree on what it comes from, what leaves on it is the
 -- same as far as both have gone, whatever other connections, slots, ports, faults and orders there are.
 abbrev pub CallsAreIsolated : Type 0
 CallsAreIsolated = (one other : Call) (x : Connection) (first : HasCarried one)
     (second : HasCarried other) → ShareOne (world_of one first) (world_of other second) x
-    → LeftAlike (world_of one first) (world_of other second) (went_of one first) (went_of other second) x
+    → LeftAlike (world_of one first) (world_of other second) (bytes_of_call one first) (bytes_of_call other second) x
 
 -- Through: to a client went the text that its own entry puts through it of its own input, to a line the line's file:
 -- from the front, and all where its place has lived.
 abbrev pub CallsPutThrough : Type 0
 CallsPutThrough = (call : Call) (x : Connection) (has : HasCarried call) → Contains call.plan.connections x
-    → LeftThrough (world_of call has) (went_of call has) x
+    → LeftThrough (world_of call has) (bytes_of_call call has) x
 
 -- Carried: where its bytes come unharmed they leave the same, three turns later, and of packets exactly those that came
 -- whole.
 abbrev pub CallsCarry : Type 0
 CallsCarry = (call : Call) (x : Connection) (has : HasCarried call) → Contains call.plan.connections x
-    → CarriedIn (world_of call has) (went_of call has) x
+    → CarriedIn (world_of call has) (bytes_of_call call has) x

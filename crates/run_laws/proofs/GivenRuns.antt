@@ -18,7 +18,7 @@ use Rattle.device_model.specs.Inputs.{AreInputs}
 use Rattle.device_model.specs.Moments.{touches, uses}
 use Rattle.device_model.specs.Report.{Numbers}
 use Rattle.device_model.specs.Through.{Inputs}
-use Rattle.run_laws.specs.GivenRuns.{HasEmitted}
+use Rattle.run_laws.specs.GivenRuns.{TellsAvailable}
 use Rattle.device_model.specs.LineAsked.{MayHave, InputLeft}
 use Rattle.device_model.specs.RunLeft.{Takings, MayBeInputs, RunLeft, RunOf}
 use Rattle.device_model.specs.RetiredPlaces.{after_retire}
@@ -116,7 +116,7 @@ client_had plan first last takings numbers x n available left has from had =
     follows (client_in_at first n) l.was (takings.client n) (takings.client_more n) available l.left
     (was_given x.retire (client_in_at first n) l.was (client_in_at last n) (takings.client n) (takings.client_more n) available l.left l.place had)
 
-pub given_inputs : (plan : Plan) (first last : BaysView) (takings : Takings) (numbers : Numbers) (inputs : Inputs) → RunLeft plan first last takings numbers → HasEmitted plan first last
+pub given_inputs : (plan : Plan) (first last : BaysView) (takings : Takings) (numbers : Numbers) (inputs : Inputs) → RunLeft plan first last takings numbers → TellsAvailable plan first last
     → AreInputs plan first last inputs → MayBeInputs plan first last takings inputs
 given_inputs plan first last takings numbers inputs left has are = record {
   line = λ a used.
@@ -128,6 +128,6 @@ given_inputs plan first last takings numbers inputs left has are = record {
       (g.0, client_had plan first last takings numbers x.0 n g.0 left x.1 x.2 g.1, are.client n g.0 used g.1);
 }
 
-pub of_given : (plan : Plan) (first last : BaysView) (takings : Takings) (numbers : Numbers) (inputs : Inputs) → RunLeft plan first last takings numbers → HasEmitted plan first last
+pub of_given : (plan : Plan) (first last : BaysView) (takings : Takings) (numbers : Numbers) (inputs : Inputs) → RunLeft plan first last takings numbers → TellsAvailable plan first last
     → AreInputs plan first last inputs → RunOf plan first last takings numbers inputs
 of_given plan first last takings numbers inputs left has are = left.of_inputs inputs (given_inputs plan first last takings numbers inputs left has are)

@@ -28,7 +28,7 @@ use Rattle.device_model.proofs.MadeFrames.{made_whole}
 use Rattle.connection_laws.proofs.OwnBytes.{inside, writes_as_got}
 use Rattle.connection_laws.proofs.WorldInputs.{gives_the_same_input, leaves_the_same, sound_of}
 use Rattle.device_model.specs.RunLeft.{LineOutLeft, ClientOutLeft}
-use Rattle.run_laws.specs.RunsAlike.{World, IsWorld, ShareOne, IsFrontOfOther, HasLived, BothLived, HasPlace, HasGone, LeftAlike, state_of_client, went_out}
+use Rattle.run_laws.specs.RunsAlike.{World, IsWorld, ShareOne, IsFrontOfOther, HasLived, BothLived, HasPlace, HasGone, LeftAlike, state_of_client, bytes_out}
 use Rattle.device_model.specs.RetiredPlaces.{out_after_retire}
 use Rattle.device_model.proofs.ConnectionPorts.{to_line_used}
 
@@ -75,7 +75,7 @@ all_turns x turns most =
     ap (λ n. min turns x.stop - first_turn x + n) none ∙ ap (λ n. n - first_turn x + 0) low ∙ omega arith
 
 pub client_left : (world : World) (x : Connection) (n : ℕ) (is : IsWorld world) → Contains world.plan.connections x → x.to ≡ to_end.Client n
-    → ClientOutLeft world.plan world.inputs x (client_out_at world.first n) ((went_out world is).client n) (client_out_at world.last n)
+    → ClientOutLeft world.plan world.inputs x (client_out_at world.first n) ((bytes_out world is).client n) (client_out_at world.last n)
 client_left world x n is has to = (is.left.of_inputs world.inputs is.may_be).outputs.client x n has to
 
 pub text_in : (world : World) (x : Connection) (is : IsWorld world) → Contains world.plan.connections x
@@ -83,17 +83,17 @@ pub text_in : (world : World) (x : Connection) (is : IsWorld world) → Contains
 text_in world x is has = ap (text_by x (own_input world.inputs x)) (all_turns x world.plan.turns (sound_in world x is has).stop)
 
 pub text_lived : (world : World) (x : Connection) (n : ℕ) (is : IsWorld world) → Contains world.plan.connections x → x.to ≡ to_end.Client n
-    → HasLived (client_out_at world.first n).state (client_out_at world.last n).state → (went_out world is).client n ≡ client_due x (own_input world.inputs x) world.plan.turns 0
+    → HasLived (client_out_at world.first n).state (client_out_at world.last n).state → (bytes_out world is).client n ≡ client_due x (own_input world.inputs x) world.plan.turns 0
 text_lived world x n is has to lived =
     let l = client_left world x n is has to in
     let not : l.was.state ≢ Dead = λ dead. lived.is (ap (λ v. v.state) l.place ∙ dead_stays x.retire l.was dead) in
-    all_of ((went_out world is).client n) l.left.rest (client_due x (own_input world.inputs x) world.plan.turns 0) l.left.parts
+    all_of ((bytes_out world is).client n) l.left.rest (client_due x (own_input world.inputs x) world.plan.turns 0) l.left.parts
     (l.left.whole (lived_on (client_out_at world.first n) l.was l.left.gained.state lived.was not))
 
 -- ---- what went to a line
 
 pub line_left : (world : World) (x : Connection) (b number : ℕ) (slots : LineSlots) (is : IsWorld world) → Contains world.plan.connections x → x.to ≡ to_end.Line b number slots
-    → LineOutLeft world.plan world.inputs b (line_out_at world.first b) ((went_out world is).line b) (line_out_at world.last b)
+    → LineOutLeft world.plan world.inputs b (line_out_at world.first b) ((bytes_out world is).line b) (line_out_at world.last b)
 line_left world x b number slots is has to =
     let at = slice_get_read world.plan.connections (length world.plan.connections) has.0 x refl has.1 (sym has.2) in
     (is.left.of_inputs world.inputs is.may_be).outputs.line b (to_line_used world.plan has.0 b number slots x at to)
@@ -196,14 +196,14 @@ same_due one other x first second share =
     text_in one x first share.first ∙ same ∙ sym (text_in other x second share.second)
 
 same_text : (one other : World) (x : Connection) (first : IsWorld one) (second : IsWorld other) → CarryAlike one other x → (n : ℕ) → x.to ≡ to_end.Client n
-    → IsFrontOfOther ((went_out one first).client n) ((went_out other second).client n)
+    → IsFrontOfOther ((bytes_out one first).client n) ((bytes_out other second).client n)
 same_text one other x first second share n to =
     let l = client_left one x n first share.first to in
     let r = client_left other x n second share.second to in
-    one_front ((went_out one first).client n) l.left.rest ((went_out other second).client n) r.left.rest (l.left.parts ∙ same_due one other x first second share ∙ sym r.left.parts)
+    one_front ((bytes_out one first).client n) l.left.rest ((bytes_out other second).client n) r.left.rest (l.left.parts ∙ same_due one other x first second share ∙ sym r.left.parts)
 
 same_whole : (one other : World) (x : Connection) (first : IsWorld one) (second : IsWorld other) → CarryAlike one other x → (n : ℕ) → x.to ≡ to_end.Client n
-    → BothLived one other (state_of_client n) → (went_out one first).client n ≡ (went_out other second).client n
+    → BothLived one other (state_of_client n) → (bytes_out one first).client n ≡ (bytes_out other second).client n
 same_whole one other x first second share n to lived =
     text_lived one x n first share.first to lived.first ∙ same_due one other x first second share ∙ sym (text_lived other x n second share.second to lived.second)
 
@@ -220,26 +220,26 @@ same_bytes one other x b number past n row column slots sent others l r have sam
 pub places_as_got : (one other : World) (x : Connection) (first : IsWorld one) (second : IsWorld other) → Contains one.plan.connections x → Contains other.plan.connections x → (b number past n row column : ℕ) (slots : LineSlots)
     → HasPlace x b number past n row column slots → got_by x (own_input one.inputs x) (own_turn x past + 1) ≡ got_by x (own_input other.inputs x) (own_turn x past + 1)
     → (form_out one.plan b).scrambled ≡ (form_out other.plan b).scrambled
-    → HasGone ((went_out one first).line b) (slots_of slots.kind * past + n) row column → HasGone ((went_out other second).line b) (slots_of slots.kind * past + n) row column
-    → HaveSameByte ((went_out one first).line b) ((went_out other second).line b) (slots_of slots.kind * past + n) row column
+    → HasGone ((bytes_out one first).line b) (slots_of slots.kind * past + n) row column → HasGone ((bytes_out other second).line b) (slots_of slots.kind * past + n) row column
+    → HaveSameByte ((bytes_out one first).line b) ((bytes_out other second).line b) (slots_of slots.kind * past + n) row column
 places_as_got one other x first second has has_too b number past n row column slots place same mask sent others =
     let f = slots_of slots.kind * past + n in
     let l = line_left one x b number slots first has place.to in
     let r = line_left other x b number slots second has_too place.to in
-    let have : HaveFrame (run_at one b ((went_out one first).line b) l) (run_at other b ((went_out other second).line b) r) x b number past n row column slots = record {
-      first = has_frame one x b number past n row column slots ((went_out one first).line b) first has place l;
-      second = has_frame other x b number past n row column slots ((went_out other second).line b) second has_too place r;
+    let have : HaveFrame (run_at one b ((bytes_out one first).line b) l) (run_at other b ((bytes_out other second).line b) r) x b number past n row column slots = record {
+      first = has_frame one x b number past n row column slots ((bytes_out one first).line b) first has place l;
+      second = has_frame other x b number past n row column slots ((bytes_out other second).line b) second has_too place r;
       frame = place.frame;
       own = place.own;
     } in
-    went_byte one b f row column ((went_out one first).line b) l sent
-    ∙ same_bytes one other x b number past n row column slots ((went_out one first).line b) ((went_out other second).line b) l r have same mask
-    ∙ sym (went_byte other b f row column ((went_out other second).line b) r others)
+    went_byte one b f row column ((bytes_out one first).line b) l sent
+    ∙ same_bytes one other x b number past n row column slots ((bytes_out one first).line b) ((bytes_out other second).line b) l r have same mask
+    ∙ sym (went_byte other b f row column ((bytes_out other second).line b) r others)
 
 same_places : (one other : World) (x : Connection) (first : IsWorld one) (second : IsWorld other) → CarryAlike one other x → (b number past n row column : ℕ) (slots : LineSlots)
     → HasPlace x b number past n row column slots → (form_out one.plan b).scrambled ≡ (form_out other.plan b).scrambled
-    → HasGone ((went_out one first).line b) (slots_of slots.kind * past + n) row column → HasGone ((went_out other second).line b) (slots_of slots.kind * past + n) row column
-    → HaveSameByte ((went_out one first).line b) ((went_out other second).line b) (slots_of slots.kind * past + n) row column
+    → HasGone ((bytes_out one first).line b) (slots_of slots.kind * past + n) row column → HasGone ((bytes_out other second).line b) (slots_of slots.kind * past + n) row column
+    → HaveSameByte ((bytes_out one first).line b) ((bytes_out other second).line b) (slots_of slots.kind * past + n) row column
 same_places one other x first second share b number past n row column slots place mask sent others =
     let sound = sound_in one x first share.first in
     let start = sound.start in
@@ -297,15 +297,15 @@ same_from one other x first second share i j at there turns =
 
 -- ---- all of it
 
-pub left_as_alike : (one other : World) (x : Connection) (first : IsWorld one) (second : IsWorld other) → CarryAlike one other x → LeftAlike one other (went_out one first) (went_out other second) x
+pub left_as_alike : (one other : World) (x : Connection) (first : IsWorld one) (second : IsWorld other) → CarryAlike one other x → LeftAlike one other (bytes_out one first) (bytes_out other second) x
 left_as_alike one other x first second share = record {
   text = same_text one other x first second share;
   whole_text = same_whole one other x first second share;
   places = same_places one other x first second share;
   all_places = λ b number past n row column slots place mask lived.
       same_places one other x first second share b number past n row column slots place mask
-      (all_gone one x b number past n row column slots ((went_out one first).line b) first share.first place (line_left one x b number slots first share.first place.to) lived.first)
-      (all_gone other x b number past n row column slots ((went_out other second).line b) second share.second place (line_left other x b number slots second share.second place.to) lived.second);
+      (all_gone one x b number past n row column slots ((bytes_out one first).line b) first share.first place (line_left one x b number slots first share.first place.to) lived.first)
+      (all_gone other x b number past n row column slots ((bytes_out other second).line b) second share.second place (line_left other x b number slots second share.second place.to) lived.second);
   client_in = same_client_in one other x first second share;
   client_out = same_client_out one other x first second share;
   from = same_from one other x first second share;
@@ -328,7 +328,7 @@ leaves_in_turns x one other same = record {
   state = λ n h. (leaves_the_same x one other n same).state;
 }
 
-pub left_alike : (one other : World) (x : Connection) (first : IsWorld one) (second : IsWorld other) → ShareOne one other x → LeftAlike one other (went_out one first) (went_out other second) x
+pub left_alike : (one other : World) (x : Connection) (first : IsWorld one) (second : IsWorld other) → ShareOne one other x → LeftAlike one other (bytes_out one first) (bytes_out other second) x
 left_alike one other x first second share =
     let same = gives_the_same_input one.plan x one.inputs other.inputs first.accepted share.first share.agree in
     left_as_alike one other x first second

@@ -21,7 +21,7 @@ use Rattle.connection_laws.proofs.Healed.{gets_what_healed, arrives_healed, carr
 use Rattle.connection_laws.proofs.OneDamaged.{leaves_as_if_repeated}
 use Rattle.connection_laws.proofs.SecondNode.{passes_a_second_node}
 use Rattle.device_model.proofs.SoundPlans.{sound_plan}
-use Rattle.run_laws.specs.RunsAlike.{World, IsWorld, LeftAlike, state_of_line, state_of_client, went_out}
+use Rattle.run_laws.specs.RunsAlike.{World, IsWorld, LeftAlike, state_of_line, state_of_client, bytes_out}
 use Rattle.run_laws.specs.RunsDamaged.{CarriesAllGot, HealsIn, Follows, front_got, HandsOnAFront, ShareButForOne}
 use Rattle.run_laws.specs.RunsThrough.{LivedIn, read_of}
 use Rattle.run_laws.proofs.RunsAlike.{sound_in, text_in, text_lived, left_as_alike}
@@ -30,7 +30,7 @@ use Rattle.run_laws.proofs.RunsThrough.{entry, goes, file_of, made_to, read_back
 -- ---- healing
 
 heals_on_line : (world : World) (x : Connection) (is : IsWorld world) → Contains world.plan.connections x → (a from b port w : ℕ) (slots others : LineSlots) → x.from ≡ from_end.Line a from slots
-    → x.to ≡ to_end.Line b port others → LivedIn world (state_of_line b) → first_turn x ≤ w → w < x.stop → CarriesAllGot world (went_out world is) x b port others w
+    → x.to ≡ to_end.Line b port others → LivedIn world (state_of_line b) → first_turn x ≤ w → w < x.stop → CarriesAllGot world (bytes_out world is) x b port others w
 heals_on_line world x is has a from b port w slots others comes to lived low less =
     let f = file_of world x b port others is has to in
     let input = own_input world.inputs x in
@@ -39,17 +39,17 @@ heals_on_line world x is has a from b port w slots others comes to lived low les
     let same = has_as_many_slots world.plan has.0 a from b port x slots others sound (entry world x has) comes to in
     let list = ((sound_in world x is has).from_line a from slots comes).list in
     subst (λ line. Carries (tributary_of others port) (arrived_by x input n) (lengths_of (got_by x input n)) (view_at (tributary_of others port) line) (first_turn x) (first_turn x) w)
-    (sym (read_back world b ((went_out world is).line b) f lived))
+    (sym (read_back world b ((bytes_out world is).line b) f lived))
     (carries_what_it_gets world.plan world.inputs x a from b port w slots others f.frames comes list (goes world x b port others is has to).0 same
-    (made_to world x b w ((went_out world is).line b) is has f less) low)
+    (made_to world x b w ((bytes_out world is).line b) is has f less) low)
 
 text_of_arrived : (world : World) (x : Connection) (is : IsWorld world) → Contains world.plan.connections x → (n : ℕ) → x.to ≡ to_end.Client n → LivedIn world (state_of_client n)
-    → (went_out world is).client n ≡ arriving_text (arrived_by x (own_input world.inputs x) (x.stop - first_turn x))
+    → (bytes_out world is).client n ≡ arriving_text (arrived_by x (own_input world.inputs x) (x.stop - first_turn x))
 text_of_arrived world x is has n to lived = text_lived world x n is has to lived ∙ text_in world x is has
 
 text_healed : (world : World) (x : Connection) (a from s b u h n : ℕ) (slots : LineSlots) (bytes p : List ℕ) (is : IsWorld world) → Contains world.plan.connections x → x.from ≡ from_end.Line a from slots
     → IsCarriedAgain (world.inputs.line a) x from slots bytes p s b u h → x.to ≡ to_end.Client n → LivedIn world (state_of_client n) → h + 4 ≤ x.stop → x.stop ≤ u + 2
-    → (went_out world is).client n ≡ arriving_text (arrived_by x (own_input world.inputs x) (h + 4 - first_turn x) ++ slice_range bytes (sent p (h + 1 - s)) (sent p (x.stop - s - 3)))
+    → (bytes_out world is).client n ≡ arriving_text (arrived_by x (own_input world.inputs x) (h + 4 - first_turn x) ++ slice_range bytes (sent p (h + 1 - s)) (sent p (x.stop - s - 3)))
 text_healed world x a from s b u h n slots bytes p is has comes heals to lived low most =
     let input = own_input world.inputs x in
     let f = first_turn x in
@@ -60,7 +60,7 @@ text_healed world x a from s b u h n slots bytes p is has comes heals to lived l
     ∙ ap (λ k. arriving_text (arrived_by x input (h + 4 - f) ++ slice_range bytes (sent p (h + 1 - s)) (sent p k))) (let e : w - s - 1 ≡ x.stop - s - 3 = omega arith in e)
 
 pub runs_heal : (world : World) (x : Connection) (a from s b u h : ℕ) (slots : LineSlots) (bytes p : List ℕ) (is : IsWorld world) → Contains world.plan.connections x → x.from ≡ from_end.Line a from slots
-    → IsCarriedAgain (world.inputs.line a) x from slots bytes p s b u h → HealsIn world (went_out world is) x bytes p s u h
+    → IsCarriedAgain (world.inputs.line a) x from slots bytes p s b u h → HealsIn world (bytes_out world is) x bytes p s u h
 runs_heal world x a from s b u h slots bytes p is has comes heals = record {
   turn = λ t low high. search (rules, gets_what_healed);
   line = λ line port w others to lived low less. search (rules, heals_on_line);
@@ -69,11 +69,11 @@ runs_heal world x a from s b u h slots bytes p is has comes heals = record {
 
 -- ---- behind a gap
 
-reads_it : (one other : World) (x y : Connection) (b c : ℕ) (slots next : LineSlots) (first : IsWorld one) → Follows one other (went_out one first) x y b c slots next
-    → other.inputs.line c ≡ read_of one (went_out one first) b
+reads_it : (one other : World) (x y : Connection) (b c : ℕ) (slots next : LineSlots) (first : IsWorld one) → Follows one other (bytes_out one first) x y b c slots next
+    → other.inputs.line c ≡ read_of one (bytes_out one first) b
 reads_it one other x y b c slots next first f = search rules
 
-front_arrived : (one other : World) (x y : Connection) (b c n : ℕ) (slots next : LineSlots) (first : IsWorld one) → IsWorld other → Follows one other (went_out one first) x y b c slots next → first_turn x + n ≤ y.stop
+front_arrived : (one other : World) (x y : Connection) (b c n : ℕ) (slots next : LineSlots) (first : IsWorld one) → IsWorld other → Follows one other (bytes_out one first) x y b c slots next → first_turn x + n ≤ y.stop
     → arrived_by y (own_input other.inputs y) (n + 1) ≡ front_got one x y (length next.list) n
 front_arrived one other x y b c n slots next first second f within =
     let file = file_of one x b f.port next first f.first f.goes in
@@ -90,10 +90,10 @@ front_arrived one other x y b c n slots next first second f within =
     let count : u + 1 - first_turn x ≡ y.stop - first_turn x = omega arith in
     subst (λ k. arrived_by y (own_input other.inputs y) (n + 1) ≡ take (emitted_after (length next.list) (lengths_of (got_by x (own_input one.inputs x) k)) n) (arrived_by x (own_input one.inputs x) k)) count
     (passes_a_second_node one.plan one.inputs other.inputs x y f.line f.from b f.port c u n slots next file.frames f.comes list (goes one x b f.port next first f.first f.goes).0 same
-    (made_to one x b u ((went_out one first).line b) first f.first file (omega arith)) (omega arith) f.reads (reads_it one other x y b c slots next first f ∙ read_back one b ((went_out one first).line b) file f.lived) turn (omega arith))
+    (made_to one x b u ((bytes_out one first).line b) first f.first file (omega arith)) (omega arith) f.reads (reads_it one other x y b c slots next first f ∙ read_back one b ((bytes_out one first).line b) file f.lived) turn (omega arith))
 
-pub hands_on_a_front : (one other : World) (x y : Connection) (b c : ℕ) (slots next : LineSlots) (first : IsWorld one) (second : IsWorld other) → Follows one other (went_out one first) x y b c slots next
-    → HandsOnAFront one other (went_out other second) x y (length next.list)
+pub hands_on_a_front : (one other : World) (x y : Connection) (b c : ℕ) (slots next : LineSlots) (first : IsWorld one) (second : IsWorld other) → Follows one other (bytes_out one first) x y b c slots next
+    → HandsOnAFront one other (bytes_out other second) x y (length next.list)
 hands_on_a_front one other x y b c slots next first second f = record {
   arrived = λ n within. search (rules, front_arrived);
   client = λ k to lived.
@@ -114,7 +114,7 @@ no_client world x a port n slots comes from = cc
 agreed : (one other : World) (x : Connection) → ShareButForOne one other x → AgreeButForOne one.inputs other.inputs x
 agreed one other x share = search rules
 
-pub agree_but_for_one : (one other : World) (x : Connection) (first : IsWorld one) (second : IsWorld other) → ShareButForOne one other x → LeftAlike one other (went_out one first) (went_out other second) x
+pub agree_but_for_one : (one other : World) (x : Connection) (first : IsWorld one) (second : IsWorld other) → ShareButForOne one other x → LeftAlike one other (bytes_out one first) (bytes_out other second) x
 agree_but_for_one one other x first second share =
     left_as_alike one other x first second
     (record {

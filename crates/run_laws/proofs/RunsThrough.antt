@@ -32,7 +32,7 @@ use Rattle.connection_laws.proofs.GotStreams.{gets_the_stream, gets_the_signal}
 use Rattle.device_model.proofs.SoundPlans.{sound_plan}
 use Rattle.device_model.specs.RunLeft.{LineOutLeft}
 use Rattle.device_model.specs.RetiredPlaces.{out_after_retire}
-use Rattle.run_laws.specs.RunsAlike.{World, IsWorld, state_of_line, state_of_client, went_out}
+use Rattle.run_laws.specs.RunsAlike.{World, IsWorld, state_of_line, state_of_client, bytes_out}
 use Rattle.run_laws.specs.RunsThrough.{LivedIn, IsFrontOf, FileWent, LeftThrough, read_of, CarriedOn, CarriedIn}
 use Rattle.run_laws.proofs.RunsAlike.{all_of, lived_on, sound_in, client_left, text_in, text_lived, line_left, dead_stays}
 
@@ -49,7 +49,7 @@ kept_out false was last place some = place
 kept_out true was last place some = place ∙ kept_by was was.state refl (λ e. some (ap (λ v. v.state) place ∙ e))
 
 client_front : (world : World) (x : Connection) (n : ℕ) (is : IsWorld world) → Contains world.plan.connections x → x.to ≡ to_end.Client n
-    → IsFrontOf (client_out_at world.first n) (client_out_at world.last n) (text_by x (own_input world.inputs x) (x.stop - first_turn x)) ((went_out world is).client n)
+    → IsFrontOf (client_out_at world.first n) (client_out_at world.last n) (text_by x (own_input world.inputs x) (x.stop - first_turn x)) ((bytes_out world is).client n)
 client_front world x n is has to =
     let l = client_left world x n is has to in
     record {
@@ -78,10 +78,10 @@ line_front world b written l = record {
   };
 }
 
-pub left_through : (world : World) (x : Connection) (is : IsWorld world) → Contains world.plan.connections x → LeftThrough world (went_out world is) x
+pub left_through : (world : World) (x : Connection) (is : IsWorld world) → Contains world.plan.connections x → LeftThrough world (bytes_out world is) x
 left_through world x is has = record {
   client = λ n to. client_front world x n is has to;
-  line = λ b port slots to. line_front world b ((went_out world is).line b) (line_left world x b port slots is has to);
+  line = λ b port slots to. line_front world b ((bytes_out world is).line b) (line_left world x b port slots is has to);
 }
 
 -- ---- what a line carries
@@ -110,40 +110,40 @@ pub goes : (world : World) (x : Connection) (b port : ℕ) (slots : LineSlots) �
     → GoesTo world.plan x b port slots × HasPaces (length slots.list) x.pace
 goes world x b port slots is has to = goes_as_asked world.plan has.0 b port x slots (sound_plan world.plan is.accepted) (entry world x has) to
 
-pub file_of : (world : World) (x : Connection) (b port : ℕ) (slots : LineSlots) (is : IsWorld world) → Contains world.plan.connections x → x.to ≡ to_end.Line b port slots → FileWent world b ((went_out world is).line b)
-file_of world x b port slots is has to = line_front world b ((went_out world is).line b) (line_left world x b port slots is has to)
+pub file_of : (world : World) (x : Connection) (b port : ℕ) (slots : LineSlots) (is : IsWorld world) → Contains world.plan.connections x → x.to ≡ to_end.Line b port slots → FileWent world b ((bytes_out world is).line b)
+file_of world x b port slots is has to = line_front world b ((bytes_out world is).line b) (line_left world x b port slots is has to)
 
 carried_line : (world : World) (x : Connection) (is : IsWorld world) → Contains world.plan.connections x → (a from b port u w : ℕ) (slots others : LineSlots) (bytes p : List ℕ) → x.from ≡ from_end.Line a from slots
     → x.to ≡ to_end.Line b port others → LivedIn world (state_of_line b) → w ≤ u → w < x.stop → CarriedOn x from slots (world.inputs.line a) bytes p u
-    → CarriedOn x port others (read_of world (went_out world is) b) bytes (0 ∷ 0 ∷ 0 ∷ p) w
+    → CarriedOn x port others (read_of world (bytes_out world is) b) bytes (0 ∷ 0 ∷ 0 ∷ p) w
 carried_line world x is has a from b port u w slots others bytes p comes to lived le less arrives =
     let f = file_of world x b port others is has to in
     let same = has_as_many_slots world.plan has.0 a from b port x slots others (sound_plan world.plan is.accepted) (entry world x has) comes to in
-    subst (λ line. CarriedOn x port others line bytes (0 ∷ 0 ∷ 0 ∷ p) w) (sym (read_back world b ((went_out world is).line b) f lived))
+    subst (λ line. CarriedOn x port others line bytes (0 ∷ 0 ∷ 0 ∷ p) w) (sym (read_back world b ((bytes_out world is).line b) f lived))
     (carries_on world.plan world.inputs x a from b port u w slots others f.frames bytes p comes (goes world x b port others is has to).0 same
-    (made_to world x b w ((went_out world is).line b) is has f less) le arrives)
+    (made_to world x b w ((bytes_out world is).line b) is has f less) le arrives)
 
 carried_client : (world : World) (x : Connection) (is : IsWorld world) → Contains world.plan.connections x → (m b port u n : ℕ) (slots : LineSlots) → x.from ≡ from_end.Client m → x.to ≡ to_end.Line b port slots
     → LivedIn world (state_of_line b) → u < x.stop → u ≤ first_turn x + n
-    → CarriedOn x port slots (read_of world (went_out world is) b) (client_stream x.trace (world.inputs.client m).packets x.fcs (emitted_before x.pace n)) (numbers_got x.pace n) u
+    → CarriedOn x port slots (read_of world (bytes_out world is) b) (client_stream x.trace (world.inputs.client m).packets x.fcs (emitted_before x.pace n)) (numbers_got x.pace n) u
 carried_client world x is has m b port u n slots comes to lived less high =
     let f = file_of world x b port slots is has to in
     let asked = goes world x b port slots is has to in
     let h : CarriedOn x port slots (concat f.frames) (arrived_by x (own_input world.inputs x) (n + 1)) (numbers_got x.pace n) u
-    = carries_a_client x m comes world.plan world.inputs b port u n slots f.frames asked.0 asked.1 (made_to world x b u ((went_out world is).line b) is has f less) high in
+    = carries_a_client x m comes world.plan world.inputs b port u n slots f.frames asked.0 asked.1 (made_to world x b u ((bytes_out world is).line b) is has f less) high in
     subst (λ line. CarriedOn x port slots line (client_stream x.trace (world.inputs.client m).packets x.fcs (emitted_before x.pace n)) (numbers_got x.pace n) u)
-    (sym (read_back world b ((went_out world is).line b) f lived))
+    (sym (read_back world b ((bytes_out world is).line b) f lived))
     (subst (λ bytes. CarriedOn x port slots (concat f.frames) bytes (numbers_got x.pace n) u) (gets_the_stream x world.inputs m n comes) h)
 
 carried_signal : (world : World) (x : Connection) (is : IsWorld world) → Contains world.plan.connections x → (signal : Signal) (b port u n : ℕ) (slots : LineSlots) → x.from ≡ from_end.Signal signal
     → x.to ≡ to_end.Line b port slots → LivedIn world (state_of_line b) → u < x.stop → u ≤ first_turn x + n
-    → CarriedOn x port slots (read_of world (went_out world is) b) (signal_bytes signal 0 (emitted_before x.pace n)) (numbers_got x.pace n) u
+    → CarriedOn x port slots (read_of world (bytes_out world is) b) (signal_bytes signal 0 (emitted_before x.pace n)) (numbers_got x.pace n) u
 carried_signal world x is has signal b port u n slots comes to lived less high =
     let f = file_of world x b port slots is has to in
     let asked = goes world x b port slots is has to in
     let h : CarriedOn x port slots (concat f.frames) (arrived_by x (own_input world.inputs x) (n + 1)) (numbers_got x.pace n) u
-    = carries_a_signal x signal comes world.plan world.inputs b port u n slots f.frames asked.0 asked.1 (made_to world x b u ((went_out world is).line b) is has f less) high in
-    subst (λ line. CarriedOn x port slots line (signal_bytes signal 0 (emitted_before x.pace n)) (numbers_got x.pace n) u) (sym (read_back world b ((went_out world is).line b) f lived))
+    = carries_a_signal x signal comes world.plan world.inputs b port u n slots f.frames asked.0 asked.1 (made_to world x b u ((bytes_out world is).line b) is has f less) high in
+    subst (λ line. CarriedOn x port slots line (signal_bytes signal 0 (emitted_before x.pace n)) (numbers_got x.pace n) u) (sym (read_back world b ((bytes_out world is).line b) f lived))
     (subst (λ bytes. CarriedOn x port slots (concat f.frames) bytes (numbers_got x.pace n) u) (gets_the_signal x world.inputs signal n comes) h)
 
 -- ---- what a client gets
@@ -158,7 +158,7 @@ own_turns start stop low le = omega arith
 
 carried_packets : (world : World) (x : Connection) (is : IsWorld world) → Contains world.plan.connections x → (a from n u k : ℕ) (slots : LineSlots) (sapi : List ℕ) (packets : List (List ℕ)) (fcs : Bool) (p : List ℕ)
     → x.from ≡ from_end.Line a from slots → x.to ≡ to_end.Client n → LivedIn world (state_of_client n) → x.stop ≤ u + 2 → AreOffered packets
-    → CarriedOn x from slots (world.inputs.line a) (client_stream sapi packets fcs k) p u → (went_out world is).client n ≡ hex_text (whole_packets packets fcs (sent p (x.stop - x.start - 2)))
+    → CarriedOn x from slots (world.inputs.line a) (client_stream sapi packets fcs k) p u → (bytes_out world is).client n ≡ hex_text (whole_packets packets fcs (sent p (x.stop - x.start - 2)))
 carried_packets world x is has a from n u k slots sapi packets fcs p comes to lived most offered arrives =
     let sound = sound_in world x is has in
     let low = sound.start in
@@ -168,7 +168,7 @@ carried_packets world x is has a from n u k slots sapi packets fcs p comes to li
     ∙ ap (λ t. hex_text (arriving_packets (arrived_by x own t))) (own_turns x.start x.stop low span)
     ∙ ap hex_text (delivers_its_packets world.inputs x a from u (x.stop - x.start) k slots sapi packets fcs p comes (omega arith) offered arrives)
 
-pub carried_in : (world : World) (x : Connection) (is : IsWorld world) → Contains world.plan.connections x → CarriedIn world (went_out world is) x
+pub carried_in : (world : World) (x : Connection) (is : IsWorld world) → Contains world.plan.connections x → CarriedIn world (bytes_out world is) x
 carried_in world x is has = record {
   line = carried_line world x is has;
   client = carried_client world x is has;

@@ -8,7 +8,7 @@ use Rattle.std.proofs.lemmas.Option.{slice_get_read}
 use Rattle.otn_base.specs.LineSlots.{LineSlots, slots_of}
 use Rattle.otn_base.specs.declared.kind.PortName.TheVariants as port
 use Rattle.otn_ports.specs.Bytes.{after}
-use Rattle.otn_ports.specs.Given.{Grew, IsGone, gone_between}
+use Rattle.otn_ports.specs.Given.{Grew, IsWritten, written_between}
 use Rattle.otn_ports.specs.Views.{State, Empty, Live, Dead, OutView, line_out_at, client_in_at, client_out_at}
 use Rattle.packet_text.specs.PacketText.{hex_text}
 use Rattle.line_side.specs.LineForm.{size_of, through_mask}
@@ -42,7 +42,7 @@ use Rattle.connection_laws.proofs.WorldInputs.{leaves_the_same}
 use Rattle.connection_laws.proofs.UpToTurn.{looks_not_ahead, shows_the_same_up_to}
 use Rattle.device_model.specs.LineAsked.{MayHave}
 use Rattle.device_model.specs.RunLeft.{Takings, MayBeInputs}
-use Rattle.run_laws.specs.RunsAlike.{World, IsWorld, went_out}
+use Rattle.run_laws.specs.RunsAlike.{World, IsWorld, bytes_out}
 use Rattle.run_laws.specs.RunsThrough.{IsFrontOf, CarriedOn}
 use Rattle.run_laws.specs.SeenRuns.{Run, IsRun, LineGave, ClientGave, AgreeOnInput, ShareInput, LineGot, ClientGot, LineLived, ClientLived, SameText, SameOnLine, SameOutput, AgreeOnInputUpTo, ShareInputUpTo, SameLineUpTo, Shows, Gave, GaveTo, FileGot, PutThrough, read_back, CarriesOver}
 use Rattle.run_laws.proofs.GivenRuns.{some_passes, line_had, client_had}
@@ -60,14 +60,14 @@ grew_by first last written left e k =
     append_cancel_left k.before written left
     (of_one (k.before ++ written) (k.before ++ left) (sym k.has ∙ e ∙ ap (λ got. after got left) k.had))
 
-by_states : (was is : State) (first last : OutView) (all left written : List ℕ) → first.state ≡ was → last.state ≡ is → IsFrontOf first last all left → gone_between was is first.got last.got written → written ≡ left
+by_states : (was is : State) (first last : OutView) (all left written : List ℕ) → first.state ≡ was → last.state ≡ is → IsFrontOf first last all left → written_between was is first.got last.got written → written ≡ left
 by_states Live Live first last all left written f l front k = grew_by first.got last.got written left (front.got f (λ e. cc)) k
 by_states Live Dead first last all left written f l front k = grew_by first.got last.got written left (front.got f (λ e. cc)) k
 by_states Live Empty first last all left written f l front k = absurd k
 by_states Empty is first last all left written f l front k = k ∙ sym (front.idle (λ e. cc))
 by_states Dead is first last all left written f l front k = k ∙ sym (front.idle (λ e. cc))
 
-got_is : (first last : OutView) (all left written : List ℕ) → IsFrontOf first last all left → IsGone first last written → written ≡ left
+got_is : (first last : OutView) (all left written : List ℕ) → IsFrontOf first last all left → IsWritten first last written → written ≡ left
 got_is first last all left written front k = by_states first.state last.state first last all left written refl refl front k
 
 -- ---- what the inputs may have been
@@ -165,15 +165,15 @@ is_world run is inputs may = record { accepted = is.accepted; left = is.left; ma
 
 -- what its line got, in a world of the run
 line_got : (world : World) (x : Connection) (is : IsWorld world) → Contains world.plan.connections x → (b number : ℕ) (slots : LineSlots) (written : List ℕ) → x.to ≡ to_end.Line b number slots
-    → IsGone (line_out_at world.first b) (line_out_at world.last b) written → written ≡ (went_out world is).line b
+    → IsWritten (line_out_at world.first b) (line_out_at world.last b) written → written ≡ (bytes_out world is).line b
 line_got world x is has b number slots written to got =
     let file = (left_through world x is has).line b number slots to in
-    got_is (line_out_at world.first b) (line_out_at world.last b) (through_mask (form_out world.plan b).scrambled (concat file.frames)) ((went_out world is).line b) written file.front got
+    got_is (line_out_at world.first b) (line_out_at world.last b) (through_mask (form_out world.plan b).scrambled (concat file.frames)) ((bytes_out world is).line b) written file.front got
 
 client_got : (world : World) (x : Connection) (is : IsWorld world) → Contains world.plan.connections x → (n : ℕ) (written : List ℕ) → x.to ≡ to_end.Client n
-    → IsGone (client_out_at world.first n) (client_out_at world.last n) written → written ≡ (went_out world is).client n
+    → IsWritten (client_out_at world.first n) (client_out_at world.last n) written → written ≡ (bytes_out world is).client n
 client_got world x is has n written to got =
-    got_is (client_out_at world.first n) (client_out_at world.last n) (text_by x (own_input world.inputs x) (x.stop - first_turn x)) ((went_out world is).client n) written
+    got_is (client_out_at world.first n) (client_out_at world.last n) (text_by x (own_input world.inputs x) (x.stop - first_turn x)) ((bytes_out world is).client n) written
     ((left_through world x is has).client n to) got
 
 -- ---- two runs
@@ -227,19 +227,19 @@ seen_alike one other x first second share =
       client = λ n written others to got got_too.
           let all = text_by x (own_input w.mine x) (x.stop - first_turn x) in
           let all_too = text_by x (own_input w.theirs x) (x.stop - first_turn x) in
-          let e = got_is (client_out_at one.before n) (client_out_at one.after n) all ((went_out mine is).client n) written (through.client n to) got in
-          let f = got_is (client_out_at other.before n) (client_out_at other.after n) all_too ((went_out theirs is_too).client n) others (through_too.client n to) got_too in
+          let e = got_is (client_out_at one.before n) (client_out_at one.after n) all ((bytes_out mine is).client n) written (through.client n to) got in
+          let f = got_is (client_out_at other.before n) (client_out_at other.after n) all_too ((bytes_out theirs is_too).client n) others (through_too.client n to) got_too in
           subst (λ l. SameText one other n l others) (sym e)
-          (subst (λ l. SameText one other n ((went_out mine is).client n) l) (sym f)
+          (subst (λ l. SameText one other n ((bytes_out mine is).client n) l) (sym f)
           (record { front = left.text n to; whole = λ l m. left.whole_text n to (record { first = l; second = m }) }));
       line = λ b number past n row column slots written others place mask got got_too.
           let file = through.line b number slots place.to in
           let file_too = through_too.line b number slots place.to in
-          let e = got_is (line_out_at one.before b) (line_out_at one.after b) (through_mask (form_out one.plan b).scrambled (concat file.frames)) ((went_out mine is).line b) written file.front got in
-          let f = got_is (line_out_at other.before b) (line_out_at other.after b) (through_mask (form_out other.plan b).scrambled (concat file_too.frames)) ((went_out theirs is_too).line b) others file_too.front got_too in
+          let e = got_is (line_out_at one.before b) (line_out_at one.after b) (through_mask (form_out one.plan b).scrambled (concat file.frames)) ((bytes_out mine is).line b) written file.front got in
+          let f = got_is (line_out_at other.before b) (line_out_at other.after b) (through_mask (form_out other.plan b).scrambled (concat file_too.frames)) ((bytes_out theirs is_too).line b) others file_too.front got_too in
           let at = slots_of slots.kind * past + n in
           subst (λ l. SameOnLine one other b at row column l others) (sym e)
-          (subst (λ l. SameOnLine one other b at row column ((went_out mine is).line b) l) (sym f)
+          (subst (λ l. SameOnLine one other b at row column ((bytes_out mine is).line b) l) (sym f)
           (record {
             gone = left.places b number past n row column slots place mask;
             whole = λ l m. left.all_places b number past n row column slots place mask (record { first = l; second = m });
@@ -300,12 +300,12 @@ not_ahead n one other x first second share =
           let same = alike.got (own_turn x past + 1) (omega (arith, so_far)) in
           let bytes = places_as_got mine theirs x is is_too share.first share.second b number past k row column slots place same mask in
           subst (λ l. SameOnLine one other b at row column l others) (sym e)
-          (subst (λ l. SameOnLine one other b at row column ((went_out mine is).line b) l) (sym f)
+          (subst (λ l. SameOnLine one other b at row column ((bytes_out mine is).line b) l) (sym f)
           (record {
             gone = bytes;
             whole = λ l m.
-                bytes (all_gone mine x b number past k row column slots ((went_out mine is).line b) is share.first place (line_left mine x b number slots is share.first place.to) l)
-                (all_gone theirs x b number past k row column slots ((went_out theirs is_too).line b) is_too share.second place (line_left theirs x b number slots is_too share.second place.to) m);
+                bytes (all_gone mine x b number past k row column slots ((bytes_out mine is).line b) is share.first place (line_left mine x b number slots is share.first place.to) l)
+                (all_gone theirs x b number past k row column slots ((bytes_out theirs is_too).line b) is_too share.second place (line_left theirs x b number slots is_too share.second place.to) m);
           }));
     }
 
@@ -338,7 +338,7 @@ text_through run x is has n own written to shows got =
     let in_world = is_world run is s.inputs s.may in
     let all = text_by x (own_input s.inputs x) (x.stop - first_turn x) in
     let front = (left_through world x in_world has).client n to in
-    let e = got_is (client_out_at run.before n) (client_out_at run.after n) all ((went_out world in_world).client n) written front got in
+    let e = got_is (client_out_at run.before n) (client_out_at run.after n) all ((bytes_out world in_world).client n) written front got in
     subst (λ o. IsFrontOf (client_out_at run.before n) (client_out_at run.after n) (text_by x o (x.stop - first_turn x)) written) (sym s.own_is)
     (subst (λ l. IsFrontOf (client_out_at run.before n) (client_out_at run.after n) all l) (sym e) front)
 
@@ -450,7 +450,7 @@ file_through run x is has b number slots inputs written to gave got =
     let world = world_of run is known in
     let file = (left_through world x in_world has).line b number slots to in
     let all = through_mask (form_out run.plan b).scrambled (concat file.frames) in
-    let e = got_is (line_out_at run.before b) (line_out_at run.after b) all ((went_out world in_world).line b) written file.front got in
+    let e = got_is (line_out_at run.before b) (line_out_at run.after b) all ((bytes_out world in_world).line b) written file.front got in
     record { frames = file.frames; file = same_file run.plan known inputs b (size_of (form_out run.plan b) * run.plan.turns) file.frames (same_to run is.takings b inputs) file.file; front = subst (λ l. IsFrontOf (line_out_at run.before b) (line_out_at run.after b) all l) (sym e) file.front }
 
 pub puts_through : (run : Run) (x : Connection) → IsRun run → Contains run.plan.connections x → PutThrough run x
@@ -479,7 +479,7 @@ client_over run x is has m b number u n slots input written comes to gave got li
     let in_world = is_world run is inputs (own_client_may run is x m input has comes gave) in
     let e = line_got world x in_world has b number slots written to got in
     subst (λ l. CarriedOn x number slots (read_back run b l) (client_stream x.trace input.packets x.fcs (emitted_before x.pace n)) (numbers_got x.pace n) u) (sym e)
-    (subst (λ i. CarriedOn x number slots (read_back run b ((went_out world in_world).line b)) (client_stream x.trace (ClientInput.packets i) x.fcs (emitted_before x.pace n)) (numbers_got x.pace n) u)
+    (subst (λ i. CarriedOn x number slots (read_back run b ((bytes_out world in_world).line b)) (client_stream x.trace (ClientInput.packets i) x.fcs (emitted_before x.pace n)) (numbers_got x.pace n) u)
     (client_is m input (taken_inputs run is.takings)) ((carried_in world x in_world has).client m b number u n slots comes to lived less high))
 
 signal_over : (run : Run) (x : Connection) → IsRun run → Contains run.plan.connections x → (signal : Signal) (b number u n : ℕ) (slots : LineSlots) (written : List ℕ) → x.from ≡ from_end.Signal signal

@@ -37,9 +37,9 @@ pub record IsWorld (world : World) : Type 0 where
   pub left : RunLeft world.plan world.first world.last world.takings world.numbers
   pub may_be : MayBeInputs world.plan world.first world.last world.takings world.inputs
 
--- what went to its outputs
-abbrev pub went_out : (world : World) → IsWorld world → OutputBytes
-went_out world is = (is.left.of_inputs world.inputs is.may_be).written
+-- what was written to its outputs
+abbrev pub bytes_out : (world : World) → IsWorld world → OutputBytes
+bytes_out world is = (is.left.of_inputs world.inputs is.may_be).written
 
 -- both plans have the connection, and their inputs agree on what it comes from
 pub record ShareOne (one other : World) (x : Connection) : Type 0 where
@@ -112,4 +112,4 @@ pub record LeftAlike (one other : World) (written others : OutputBytes) (x : Con
 -- So it is of any two runs that share it, whatever else they carry.
 abbrev pub RunsAgree : Type 0
 RunsAgree = (one other : World) (x : Connection) (first : IsWorld one) (second : IsWorld other) → ShareOne one other x
-    → LeftAlike one other (went_out one first) (went_out other second) x
+    → LeftAlike one other (bytes_out one first) (bytes_out other second) x

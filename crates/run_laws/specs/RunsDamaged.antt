@@ -16,7 +16,7 @@ use Rattle.device_model.specs.LineViews.{view_at}
 use Rattle.device_model.specs.Numbers.{OutputBytes}
 use Rattle.connection_laws.specs.OneDamaged.{AgreeButForOne}
 use Rattle.device_model.specs.Through.{own_input, got_in, got_by, arrived_by}
-use Rattle.run_laws.specs.RunsAlike.{World, IsWorld, LeftAlike, went_out, state_of_line, state_of_client}
+use Rattle.run_laws.specs.RunsAlike.{World, IsWorld, LeftAlike, bytes_out, state_of_line, state_of_client}
 use Rattle.run_laws.specs.RunsThrough.{LivedIn, read_of}
 
 -- ---- healing
@@ -53,7 +53,7 @@ abbrev pub RunsHeal : Type 0
 RunsHeal = (world : World) (x : Connection) (a from s b u h : ℕ) (slots : LineSlots) (bytes p : List ℕ)
     (is : IsWorld world) → Contains world.plan.connections x
     → x.from ≡ from_end.Line a from slots → IsCarriedAgain (world.inputs.line a) x from slots bytes p s b u h
-    → HealsIn world (went_out world is) x bytes p s u h
+    → HealsIn world (bytes_out world is) x bytes p s u h
 
 -- ---- behind a gap
 
@@ -95,8 +95,8 @@ pub record HandsOnAFront (one other : World) (written : OutputBytes) (x y : Conn
 abbrev pub RunsHandOnAFront : Type 0
 RunsHandOnAFront = (one other : World) (x y : Connection) (b c : ℕ) (slots next : LineSlots) (first : IsWorld one)
     (second : IsWorld other)
-    → Follows one other (went_out one first) x y b c slots next
-    → HandsOnAFront one other (went_out other second) x y (length next.list)
+    → Follows one other (bytes_out one first) x y b c slots next
+    → HandsOnAFront one other (bytes_out other second) x y (length next.list)
 
 -- ---- one damaged message
 
@@ -112,4 +112,4 @@ pub record ShareButForOne (one other : World) (x : Connection) : Type 0 where
 abbrev pub RunsAgreeButForOne : Type 0
 RunsAgreeButForOne = (one other : World) (x : Connection) (first : IsWorld one) (second : IsWorld other)
     → ShareButForOne one other x
-    → LeftAlike one other (went_out one first) (went_out other second) x
+    → LeftAlike one other (bytes_out one first) (bytes_out other second) x

@@ -24,7 +24,7 @@ use Rattle.device_model.specs.LineFiles.{IsLineFile}
 use Rattle.device_model.specs.LineViews.{view_at}
 use Rattle.device_model.specs.Numbers.{OutputBytes}
 use Rattle.device_model.specs.Through.{own_input, text_by}
-use Rattle.run_laws.specs.RunsAlike.{World, IsWorld, HasLived, went_out, state_of_line, state_of_client}
+use Rattle.run_laws.specs.RunsAlike.{World, IsWorld, HasLived, bytes_out, state_of_line, state_of_client}
 
 -- ---- outputs
 
@@ -58,7 +58,7 @@ pub record LeftThrough (world : World) (written : OutputBytes) (x : Connection) 
 -- So it is of each connection of a plan that was run.
 abbrev pub OutputsAreThrough : Type 0
 OutputsAreThrough = (world : World) (x : Connection) (is : IsWorld world) → Contains world.plan.connections x
-    → LeftThrough world (went_out world is) x
+    → LeftThrough world (bytes_out world is) x
 
 -- ---- what is carried
 
@@ -100,4 +100,4 @@ pub record CarriedIn (world : World) (written : OutputBytes) (x : Connection) : 
 -- So does each connection of a plan that was run.
 abbrev pub RunsCarry : Type 0
 RunsCarry = (world : World) (x : Connection) (is : IsWorld world) → Contains world.plan.connections x
-    → CarriedIn world (went_out world is) x
+    → CarriedIn world (bytes_out world is) x

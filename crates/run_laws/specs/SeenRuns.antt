@@ -5,7 +5,7 @@ use Rattle.std.specs.Prelude.{◌≡◌, ◌<◌, ◌≤◌, ◌+◌, ◌-◌, �
 use Rattle.std.specs.List.{concat, Contains}
 use Rattle.otn_base.specs.LineSlots.{LineSlots, slots_of}
 use Rattle.otn_base.specs.declared.kind.PortName.{PortName}
-use Rattle.otn_ports.specs.Given.{HadToGive, IsGone}
+use Rattle.otn_ports.specs.Given.{HadToGive, IsWritten}
 use Rattle.otn_ports.specs.Views.{BaysView, line_in_at, line_out_at, client_in_at, client_out_at}
 use Rattle.packet_text.specs.PacketText.{hex_text}
 use Rattle.line_side.specs.LineForm.{size_of, through_mask}
@@ -88,10 +88,10 @@ pub record ShareInput (one other : Run) (x : Connection) : Type 0 where
 -- these bytes went to output line b, and to client n, by which what their ports got grew; no bytes are these where a
 -- client's place was retired
 abbrev pub LineGot : Run → (b : ℕ) → (written : List ℕ) → Type 0
-LineGot run b written = IsGone (line_out_at run.before b) (line_out_at run.after b) written
+LineGot run b written = IsWritten (line_out_at run.before b) (line_out_at run.after b) written
 
 abbrev pub ClientGot : Run → (n : ℕ) → (written : List ℕ) → Type 0
-ClientGot run n written = IsGone (client_out_at run.before n) (client_out_at run.after n) written
+ClientGot run n written = IsWritten (client_out_at run.before n) (client_out_at run.after n) written
 
 -- their places have lived: they were live and have not died
 abbrev pub LineLived : Run → (b : ℕ) → Type 0

@@ -37,30 +37,30 @@ one_taken port taken watches slot byte watch many low high h took = record { eac
         subst (λ xs. HasTaken port xs (get_or (set watches (slot - 1) watch) (k - 1) d)) bytes (subst (HasTaken port (taken k)) (sym here) (h.each k d a b))
 
 -- the bytes of slot k among one pair more
-pub bytes_more : (k : ℕ) (arrived : List (ℕ × ℕ)) (pair : ℕ × ℕ) → bytes_of k (arrived ++ pair ∷ []) ≡ bytes_of k arrived ++ cond (pair.0 == k) (pair.1 ∷ []) []
-bytes_more k arrived pair =
-    ap (map (λ (p : ℕ × ℕ). p.1)) (filter-append (λ (p : ℕ × ℕ). p.0 == k) arrived (pair ∷ []))
-    ∙ map-append (λ (p : ℕ × ℕ). p.1) (filter (λ (p : ℕ × ℕ). p.0 == k) arrived) (filter (λ (p : ℕ × ℕ). p.0 == k) (pair ∷ []))
-    ∙ ap (λ xs. bytes_of k arrived ++ xs) (go (pair.0 == k))
+pub bytes_more : (k : ℕ) (msi : List (ℕ × ℕ)) (pair : ℕ × ℕ) → bytes_of k (msi ++ pair ∷ []) ≡ bytes_of k msi ++ cond (pair.0 == k) (pair.1 ∷ []) []
+bytes_more k msi pair =
+    ap (map (λ (p : ℕ × ℕ). p.1)) (filter-append (λ (p : ℕ × ℕ). p.0 == k) msi (pair ∷ []))
+    ∙ map-append (λ (p : ℕ × ℕ). p.1) (filter (λ (p : ℕ × ℕ). p.0 == k) msi) (filter (λ (p : ℕ × ℕ). p.0 == k) (pair ∷ []))
+    ∙ ap (λ xs. bytes_of k msi ++ xs) (go (pair.0 == k))
   where
     go : (t : Bool) → map (λ (p : ℕ × ℕ). p.1) (cond t (pair ∷ []) []) ≡ cond t (pair.1 ∷ []) []
     go true = refl
     go false = refl
 
-pub no_bytes : (port : ℕ) (taken : ℕ → List ℕ) (arrived : List (ℕ × ℕ)) (watches : List Watch) → Watched port taken watches → Watched port (λ k. taken k ++ bytes_of k (take 0 arrived)) watches
-no_bytes port taken arrived watches h = same_taken port taken (λ k. taken k ++ bytes_of k (take 0 arrived)) watches (λ k. sym (append-nil (taken k))) h
+pub no_bytes : (port : ℕ) (taken : ℕ → List ℕ) (msi : List (ℕ × ℕ)) (watches : List Watch) → Watched port taken watches → Watched port (λ k. taken k ++ bytes_of k (take 0 msi)) watches
+no_bytes port taken msi watches h = same_taken port taken (λ k. taken k ++ bytes_of k (take 0 msi)) watches (λ k. sym (append-nil (taken k))) h
 
-pub more_bytes : (port : ℕ) (taken : ℕ → List ℕ) (arrived : List (ℕ × ℕ)) (i : ℕ) (d : ℕ × ℕ) (watches : List Watch) → i < length arrived
-    → Watched port (λ k. taken k ++ bytes_of k (take i arrived) ++ cond ((get_or arrived i d).0 == k) ((get_or arrived i d).1 ∷ []) []) watches
-    → Watched port (λ k. taken k ++ bytes_of k (take (i + 1) arrived)) watches
-more_bytes port taken arrived i d watches inside h =
-    let pair : ℕ × ℕ = get_or arrived i d in
-    same_taken port (λ k. taken k ++ bytes_of k (take i arrived) ++ cond (pair.0 == k) (pair.1 ∷ []) []) (λ k. taken k ++ bytes_of k (take (i + 1) arrived)) watches
-    (λ k. append_assoc (taken k) (bytes_of k (take i arrived)) (cond (pair.0 == k) (pair.1 ∷ []) [])
-    ∙ ap (λ xs. taken k ++ xs) (sym (bytes_more k (take i arrived) pair))
-    ∙ ap (λ xs. taken k ++ bytes_of k xs) (sym (take_more arrived i d inside))) h
+pub more_bytes : (port : ℕ) (taken : ℕ → List ℕ) (msi : List (ℕ × ℕ)) (i : ℕ) (d : ℕ × ℕ) (watches : List Watch) → i < length msi
+    → Watched port (λ k. taken k ++ bytes_of k (take i msi) ++ cond ((get_or msi i d).0 == k) ((get_or msi i d).1 ∷ []) []) watches
+    → Watched port (λ k. taken k ++ bytes_of k (take (i + 1) msi)) watches
+more_bytes port taken msi i d watches inside h =
+    let pair : ℕ × ℕ = get_or msi i d in
+    same_taken port (λ k. taken k ++ bytes_of k (take i msi) ++ cond (pair.0 == k) (pair.1 ∷ []) []) (λ k. taken k ++ bytes_of k (take (i + 1) msi)) watches
+    (λ k. append_assoc (taken k) (bytes_of k (take i msi)) (cond (pair.0 == k) (pair.1 ∷ []) [])
+    ∙ ap (λ xs. taken k ++ xs) (sym (bytes_more k (take i msi) pair))
+    ∙ ap (λ xs. taken k ++ bytes_of k xs) (sym (take_more msi i d inside))) h
 
-pub all_bytes : (port : ℕ) (taken : ℕ → List ℕ) (arrived : List (ℕ × ℕ)) (i : ℕ) (watches : List Watch) → length arrived ≤ i
-    → Watched port (λ k. taken k ++ bytes_of k (take i arrived)) watches → Watched port (λ k. taken k ++ bytes_of k arrived) watches
-all_bytes port taken arrived i watches past h =
-    same_taken port (λ k. taken k ++ bytes_of k (take i arrived)) (λ k. taken k ++ bytes_of k arrived) watches (λ k. ap (λ xs. taken k ++ bytes_of k xs) (take_all i arrived past)) h
+pub all_bytes : (port : ℕ) (taken : ℕ → List ℕ) (msi : List (ℕ × ℕ)) (i : ℕ) (watches : List Watch) → length msi ≤ i
+    → Watched port (λ k. taken k ++ bytes_of k (take i msi)) watches → Watched port (λ k. taken k ++ bytes_of k msi) watches
+all_bytes port taken msi i watches past h =
+    same_taken port (λ k. taken k ++ bytes_of k (take i msi)) (λ k. taken k ++ bytes_of k msi) watches (λ k. ap (λ xs. taken k ++ bytes_of k xs) (take_all i msi past)) h

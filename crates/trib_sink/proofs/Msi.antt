@@ -67,19 +67,19 @@ one_there e b (x ∷ xs) h some has = go (λ f. one_there e b xs (rising_rest x 
         ∙ later_one (has_rest x xs (e - 1) has other)
 
 -- as a clause says it, one pair more or none
-pub noted : (line : ℕ) (slots frame : List ℕ) (e b : ℕ) (arrived new : List (ℕ × ℕ)) → IsSlotList line slots → 1 ≤ e → Contains slots (e - 1) → new ≡ arrived ++ (e - 1, b) ∷ []
-    → b ≡ get_or frame (place_of 4080 4 15) 0 → new ≡ arrived ++ msi_at slots e frame
-noted line slots frame e b arrived new list some has is byte =
-    is ∙ ap {A = ℕ} (λ b. arrived ++ (e - 1, b) ∷ []) byte ∙ ap (λ xs. arrived ++ xs) (sym (one_there e (get_or frame (place_of 4080 4 15) 0) slots list.rising some has))
+pub noted : (line : ℕ) (slots frame : List ℕ) (e b : ℕ) (msi new : List (ℕ × ℕ)) → IsSlotList line slots → 1 ≤ e → Contains slots (e - 1) → new ≡ msi ++ (e - 1, b) ∷ []
+    → b ≡ get_or frame (place_of 4080 4 15) 0 → new ≡ msi ++ msi_at slots e frame
+noted line slots frame e b msi new list some has is byte =
+    is ∙ ap {A = ℕ} (λ b. msi ++ (e - 1, b) ∷ []) byte ∙ ap (λ xs. msi ++ xs) (sym (one_there e (get_or frame (place_of 4080 4 15) 0) slots list.rising some has))
 
-pub not_noted : (slots frame : List ℕ) (e : ℕ) (arrived : List (ℕ × ℕ)) → (1 ≤ e → Contains slots (e - 1) → ⊥) → arrived ≡ arrived ++ msi_at slots e frame
-not_noted slots frame e arrived without =
-    sym (append-nil arrived) ∙ ap (λ xs. arrived ++ xs) (sym (none_there e (get_or frame (place_of 4080 4 15) 0) slots
+pub not_noted : (slots frame : List ℕ) (e : ℕ) (msi : List (ℕ × ℕ)) → (1 ≤ e → Contains slots (e - 1) → ⊥) → msi ≡ msi ++ msi_at slots e frame
+not_noted slots frame e msi without =
+    sym (append-nil msi) ∙ ap (λ xs. msi ++ xs) (sym (none_there e (get_or frame (place_of 4080 4 15) 0) slots
     (λ k has f. without (omega arith) (subst (Contains slots) (let g : k ≡ e - 1 = omega arith in g) has))))
 
-pub noted_slots : (line : ℕ) (slots : List ℕ) (e b : ℕ) (arrived new : List (ℕ × ℕ)) → IsSlotList line slots → line ≤ 32 → Contains slots (e - 1) → new ≡ arrived ++ (e - 1, b) ∷ [] → AreOfSlots arrived → AreOfSlots new
-noted_slots line slots e b arrived new list most has is h =
+pub noted_slots : (line : ℕ) (slots : List ℕ) (e b : ℕ) (msi new : List (ℕ × ℕ)) → IsSlotList line slots → line ≤ 32 → Contains slots (e - 1) → new ≡ msi ++ (e - 1, b) ∷ [] → AreOfSlots msi → AreOfSlots new
+noted_slots line slots e b msi new list most has is h =
     let low = slot_low line slots (e - 1) list has in
     let high = slot_high line slots (e - 1) list has in
     let P : ℕ × ℕ → Type 0 = λ p. (1 ≤ p.0) × (p.0 ≤ 32) in
-    subst AreOfSlots (sym is) (All-append P arrived ((e - 1, b) ∷ []) h (All-cons P (e - 1, b) [] (low, omega arith) (All-nil P)))
+    subst AreOfSlots (sym is) (All-append P msi ((e - 1, b) ∷ []) h (All-cons P (e - 1, b) [] (low, omega arith) (All-nil P)))

@@ -2,7 +2,7 @@
 use Rattle.std.specs.Prelude.{◌≡◌, ℕ, ◌+◌, ◌*◌, ◌-◌, ◌<◌, ◌≤◌, List, [], Option, Some, None}
 use Rattle.otn_base.specs.declared.limits.TheConstants.{GROUPS}
 use Rattle.maintenance_signals.specs.declared.signal.Signal.TheVariants.{Ais}
-use Rattle.maintenance_signals.specs.Given.{StreamPlace, HasEmitted}
+use Rattle.maintenance_signals.specs.Emitted.{StreamPlace, HasEmitted}
 use Rattle.tributary_model.specs.declared.turns.Said.{Said}
 use Rattle.tributary_model.specs.declared.turns.Standing.{Standing}
 use Rattle.tributary_model.specs.declared.turns.Standing.TheVariants.{Waiting, Down, Up}

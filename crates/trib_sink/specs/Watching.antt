@@ -9,4 +9,4 @@ pub record Watched (port : ℕ) (read : ℕ → List ℕ) (watches : List Watch)
 
 -- bytes, each with its slot, of slots that a line can have
 abbrev pub AreOfSlots : List (ℕ × ℕ) → Type 0
-AreOfSlots arrived = All (λ p. (1 ≤ p.0) × (p.0 ≤ MOST_SLOTS)) arrived
+AreOfSlots msi = All (λ p. (1 ≤ p.0) × (p.0 ≤ MOST_SLOTS)) msi

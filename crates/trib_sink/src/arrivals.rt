@@ -39,17 +39,17 @@ pub(crate) fn note_msi<F: TakeFrame>(
     slots: &Slots,
     frame: &F,
     expected: u8,
-    arrived: &mut ArrayVec<(u8, u8), MOST_SLOTS>,
+    msi: &mut ArrayVec<(u8, u8), MOST_SLOTS>,
 )
-    requires room { length arrived.old.items < MOST_SLOTS }
-    ensures bytes { arrived.new.items ≡ arrived.old.items ++ msi_at slots.now.list expected (F.bytes frame.now) }
-    ensures few { length arrived.new.items ≤ length arrived.old.items + 1 }
-    ensures slots { AreOfSlots arrived.old.items → AreOfSlots arrived.new.items }
+    requires room { length msi.old.items < MOST_SLOTS }
+    ensures bytes { msi.new.items ≡ msi.old.items ++ msi_at slots.now.list expected (F.bytes frame.now) }
+    ensures few { length msi.new.items ≤ length msi.old.items + 1 }
+    ensures slots { AreOfSlots msi.old.items → AreOfSlots msi.new.items }
 {
     if expected == 0 {
         return;
     }
     if slots.has(expected - 1) {
-        arrived.push((expected - 1, frame.psi()));
+        msi.push((expected - 1, frame.psi()));
     }
 }

@@ -2,7 +2,7 @@
 ghost use Rattle.std.specs.Prelude.{◌≡◌, ◌+◌, ◌*◌, ◌≤◌, ℕ, [], ◌++◌, IfOk, length, take, drop, slice_range, vec_len};
 ghost use Rattle.frame_geometry.specs.Places.{payload_row_of};
 ghost use Rattle.maintenance_signals.specs.declared.signal.Signal.{Signal};
-ghost use Rattle.maintenance_signals.specs.Given.{HasEmitted};
+ghost use Rattle.maintenance_signals.specs.Emitted.{HasEmitted};
 ghost use Rattle.maintenance_signals.specs.Stream.{signal_bytes};
 ghost use Rattle.otn_base.specs.LineSlots.{slots_of};
 ghost use Rattle.otn_base.specs.declared.limits.TheConstants.{GROUPS, LINE_COLUMNS, MOST_SLOTS, NOMINAL};

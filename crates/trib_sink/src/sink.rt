@@ -35,7 +35,7 @@ pub struct TribSink {
     watches: [MsiWatch; MOST_SLOTS],
     taken: u8,
     message: [u8; 6],
-    arrived: ArrayVec<(u8, u8), MOST_SLOTS>,
+    msi: ArrayVec<(u8, u8), MOST_SLOTS>,
 }
 
 impl Model for TribSink {
@@ -43,9 +43,9 @@ impl Model for TribSink {
 
     ghost Value = { Sink };
 
-    ghost view = { λ s. record { slots = s.slots; port = s.port; following = s.follower; watches = s.watches; taken = s.taken; message = s.message; msi = s.arrived.items } };
+    ghost view = { λ s. record { slots = s.slots; port = s.port; following = s.follower; watches = s.watches; taken = s.taken; message = s.message; msi = s.msi.items } };
 
-    ghost invariant = { λ s. IsSink (record { slots = s.slots; port = s.port; following = s.follower; watches = s.watches; taken = s.taken; message = s.message; msi = s.arrived.items }) };
+    ghost invariant = { λ s. IsSink (record { slots = s.slots; port = s.port; following = s.follower; watches = s.watches; taken = s.taken; message = s.message; msi = s.msi.items }) };
 }
 
 impl TribSink {
@@ -71,7 +71,7 @@ impl TribSink {
             watches: [MsiWatch::new(port); MOST_SLOTS],
             taken: 0,
             message: [0; 6],
-            arrived: ArrayVec::new(),
+            msi: ArrayVec::new(),
         })
     }
 
@@ -114,7 +114,7 @@ impl TribSink {
         self.follower.restart();
         let watches = [MsiWatch::new(self.port); MOST_SLOTS];
         self.watches = watches;
-        self.arrived.clear();
+        self.msi.clear();
         self.taken = 0;
     }
 
@@ -132,7 +132,7 @@ impl TribSink {
     {
         self.follower.take_frame(frame, &self.slots);
         self.message = message_so_far(&self.slots, n, frame, self.message);
-        note_msi(&self.slots, frame, expected, &mut self.arrived);
+        note_msi(&self.slots, frame, expected, &mut self.msi);
         self.taken += 1;
     }
 
@@ -200,12 +200,12 @@ impl TribSink {
             whole,
             &self.slots,
             self.message,
-            self.arrived.as_slice(),
+            self.msi.as_slice(),
             &mut self.watches,
             &mut self.follower,
         );
         self.follower.pass(heard);
-        self.arrived.clear();
+        self.msi.clear();
         self.taken = 0;
     }
 }

@@ -23,18 +23,18 @@ pub(crate) fn hear_turn(
     whole: bool,
     slots: &Slots,
     message: [u8; 6],
-    arrived: &[(u8, u8)],
+    msi: &[(u8, u8)],
     watches: &mut [MsiWatch],
     follower: &mut Follower,
 ) -> Option<Hearing>
     requires watches { length watches.old ≡ MOST_SLOTS }
-    requires arrived { AreOfSlots arrived.now }
+    requires msi { AreOfSlots msi.now }
     requires keeps { Keeps follower.old.standing follower.old.listener }
     ensures missed { whole ≡ false → (result ≡ None) × (watches.new ≡ watches.old) }
     ensures watched { whole ≡ true → (port : ℕ) (read : ℕ → List ℕ) → Watched port read watches.old
-        → Watched port (λ k. read k ++ bytes_of k arrived.now) watches.new }
+        → Watched port (λ k. read k ++ bytes_of k msi.now) watches.new }
     ensures heard { whole ≡ true → (port : ℕ) (read : ℕ → List ℕ) → Watched port read watches.old
-        → result ≡ (if list_any (λ k. is_marked port (read k ++ bytes_of k arrived.now)) slots.now.list then None
+        → result ≡ (if list_any (λ k. is_marked port (read k ++ bytes_of k msi.now)) slots.now.list then None
         else Some (hears_message (former_of follower.old.standing) follower.old.extraction.slots message)) }
     ensures small { IsSmallHearing follower.old.extraction.slots result }
     ensures follower { follower.new ≡ record follower.old { listener = listener_after follower.old result } }
@@ -42,7 +42,7 @@ pub(crate) fn hear_turn(
     if !whole {
         return None;
     }
-    take_all(watches, arrived);
+    take_all(watches, msi);
     if any_marked(watches, slots.as_slice()) {
         return None;
     }

@@ -9,13 +9,13 @@ ghost use Rattle.trib_sink.specs.Watching.{Watched, AreOfSlots};
 use msi_table::MsiWatch;
 
 /// Takes the MSI bytes that came in a turn, each with its slot.
-pub(crate) fn take_all(watches: &mut [MsiWatch], arrived: &[(u8, u8)])
+pub(crate) fn take_all(watches: &mut [MsiWatch], msi: &[(u8, u8)])
     requires watches { length watches.old ≡ MOST_SLOTS }
-    requires slots { AreOfSlots arrived.now }
+    requires slots { AreOfSlots msi.now }
     ensures { (port : ℕ) (read : ℕ → List ℕ) → Watched port read watches.old
-        → Watched port (λ k. read k ++ bytes_of k arrived.now) watches.new }
+        → Watched port (λ k. read k ++ bytes_of k msi.now) watches.new }
 {
-    for pair in arrived {
+    for pair in msi {
         take_one(watches, pair.0, pair.1);
     }
 }

@@ -59,7 +59,7 @@ fn take_turn(tap: &mut Tap, place: &mut InPlaceOf<MemSource>, room: &mut Vec<u8>
 
 // What a sink of that line comes to: how it stands before its turns and after them, how many bytes each emits, and
 // whether more came.
-fn read(
+fn run_sink(
     alloc: Global,
     slots: &Slots,
     line: Vec<u8>,
@@ -83,7 +83,7 @@ fn put_and_taken(rt: HostRuntime) -> Result<(), Fail> {
     let slots = Slots::new(&[1, 2, 5], LineKind::Otu2).ok_or("three slots")?;
     let line = line_of(alloc, &slots)?;
     assert_eq!(rt; line.len(), 24 * LINE_FRAME_BYTES);
-    let (first, emitted, last, more) = read(alloc, &slots, line)?;
+    let (first, emitted, last, more) = run_sink(alloc, &slots, line)?;
     assert_eq!(rt; first, SinkState::Waiting);
     assert_eq!(rt; emitted.as_slice(), [0, 0, 45_001].as_slice());
     assert_eq!(rt; last, SinkState::Up);

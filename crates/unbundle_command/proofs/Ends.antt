@@ -51,29 +51,29 @@ none_dead_more cid channels last before here d = elim (cases_lt d.cid cid) [
   | inr least ↦ (let low = d.low in let e : d.cid ≡ cid = omega arith in here (subst (λ k. IsDeadAt k channels last) e d.at))
 ]
 
-cut_of : (first last : BaysView) (further : List ChannelArrival) (outputs : OutputsView) → OutputsStand first last further outputs → HasDead outputs.channels last → IsCut further last
-cut_of first last further outputs held (inl dead) = inl dead
-cut_of first last further outputs held (inr d) =
+cut_of : (first last : BaysView) (arrived : List ChannelArrival) (outputs : OutputsView) → OutputsStand first last arrived outputs → HasDead outputs.channels last → IsCut arrived last
+cut_of first last arrived outputs held (inl dead) = inl dead
+cut_of first last arrived outputs held (inr d) =
     let count = (held.channels.each d.cid d.low).packets in
     let some = d.at.arrived in
-    inr (record { cid = d.cid; low = d.low; arrived = λ none. (let no : length (packets_on d.cid further) ≡ 0 = ap length none in absurd (omega arith)); dead = d.at.dead })
+    inr (record { cid = d.cid; low = d.low; some = λ none. (let no : length (packets_on d.cid arrived) ≡ 0 = ap length none in absurd (omega arith)); dead = d.at.dead })
 
-dead_of : (first last : BaysView) (further : List ChannelArrival) (outputs : OutputsView) → OutputsStand first last further outputs → IsCut further last → HasDead outputs.channels last
-dead_of first last further outputs held (inl dead) = inl dead
-dead_of first last further outputs held (inr d) =
+dead_of : (first last : BaysView) (arrived : List ChannelArrival) (outputs : OutputsView) → OutputsStand first last arrived outputs → IsCut arrived last → HasDead outputs.channels last
+dead_of first last arrived outputs held (inl dead) = inl dead
+dead_of first last arrived outputs held (inr d) =
     let count = (held.channels.each d.cid d.low).packets in
-    let some = some_length (packets_on d.cid further) d.arrived in
+    let some = some_length (packets_on d.cid arrived) d.some in
     inr (record { cid = d.cid; low = d.low; at = record { arrived = omega arith; dead = d.dead } })
 
-pub ends_whole : (first last : BaysView) (further : List ChannelArrival) (outputs : OutputsView) (turns : ℕ) (available : List ℕ) (dead more : Bool) → (dead ≡ true → HasDead outputs.channels last) → (dead ≡ false → HasDead outputs.channels last → ⊥)
-    → OutputsStand first last further outputs → (more ≡ true → HasMore turns available) → (more ≡ false → HasMore turns available → ⊥) → EndsAs (ended_by dead more) (IsCut further last) (HasMore turns available)
-ends_whole first last further outputs turns available dead more some none held a b =
-    ends_by dead more (IsCut further last) (HasMore turns available) (λ e. cut_of first last further outputs held (some e)) (λ h. is_true dead (λ e. none e (dead_of first last further outputs held h))) a (λ h. is_true more (λ e. b e h))
+pub ends_whole : (first last : BaysView) (arrived : List ChannelArrival) (outputs : OutputsView) (turns : ℕ) (available : List ℕ) (dead more : Bool) → (dead ≡ true → HasDead outputs.channels last) → (dead ≡ false → HasDead outputs.channels last → ⊥)
+    → OutputsStand first last arrived outputs → (more ≡ true → HasMore turns available) → (more ≡ false → HasMore turns available → ⊥) → EndsAs (ended_by dead more) (IsCut arrived last) (HasMore turns available)
+ends_whole first last arrived outputs turns available dead more some none held a b =
+    ends_by dead more (IsCut arrived last) (HasMore turns available) (λ e. cut_of first last arrived outputs held (some e)) (λ h. is_true dead (λ e. none e (dead_of first last arrived outputs held h))) a (λ h. is_true more (λ e. b e h))
 
 -- ---- what is left
 
-outputs_sent : (first last : BaysView) (further : List ChannelArrival) (outputs : OutputsView) → NoneHeld CLIENTS outputs.channels → OutputsStand first last further outputs → OutputsSent further first last
-outputs_sent first last further outputs none held = record {
+outputs_sent : (first last : BaysView) (arrived : List ChannelArrival) (outputs : OutputsView) → NoneHeld CLIENTS outputs.channels → OutputsStand first last arrived outputs → OutputsSent arrived first last
+outputs_sent first last arrived outputs none held = record {
   sent = λ cid low. (let h = (held.channels.each cid low).lines in
       subst (λ due. IsSent (client_out_at first cid) due (client_out_at last cid)) (sym (append-nil h.due) ∙ ap (λ t. h.due ++ t) (sym (none.each cid low)) ∙ h.parts) h.sent);
   quiet = λ cid low. (held.channels.each cid low).lines.quiet;
@@ -84,10 +84,10 @@ few_arrive available turns many few = let all = client_few (emitted_before avail
 
 pub ended_so : (first was mid is : BaysView) (turns : ℕ) (parts : Unbundling) (x x' : InView) (answer : Bool) (outputs : OutputsView) (report report' : SinkView) (ended : Ended) → IsReady parts → turns ≤ MOST_TURNS
     → OnlyLineIn 0 was mid → line_in_at was 0 ≡ x → line_in_at mid 0 ≡ x' → OnlyClientsOut mid is → ByteAnswer (not (is_seen parts.tap.line.reader.ending)) x x' answer
-    → ((further : List ChannelArrival) → OutputsStand first mid further parts.outputs → OutputsStand first is further outputs) → NoneHeld CLIENTS outputs.channels
-    → ((further : List ChannelArrival) → OutputsStand first is further outputs → length further ≤ 2 ^ 64 - 1 → SinkWrites (written_by ended) report (report_text further) report')
-    → ((further : List ChannelArrival) (available : List ℕ) → OutputsStand first is further outputs → (answer ≡ true → HasMore turns available) → (answer ≡ false → HasMore turns available → ⊥) → ended ≢ ReportFault
-    → EndsAs ended (IsCut further is) (HasMore turns available)) → TurnsGone first was turns parts → UnbundleRan turns first is report report' ended
+    → ((arrived : List ChannelArrival) → OutputsStand first mid arrived parts.outputs → OutputsStand first is arrived outputs) → NoneHeld CLIENTS outputs.channels
+    → ((arrived : List ChannelArrival) → OutputsStand first is arrived outputs → length arrived ≤ 2 ^ 64 - 1 → SinkWrites (written_by ended) report (report_text arrived) report')
+    → ((arrived : List ChannelArrival) (available : List ℕ) → OutputsStand first is arrived outputs → (answer ≡ true → HasMore turns available) → (answer ≡ false → HasMore turns available → ⊥) → ended ≢ ReportFault
+    → EndsAs ended (IsCut arrived is) (HasMore turns available)) → TurnsGone first was turns parts → UnbundleRan turns first is report report' ended
 ended_so first was mid is turns parts x x' answer outputs report report' ended ready many only a b clients asked flushed none wrote ends due =
     let line = parts.tap.line in
     let asks = not (is_seen line.reader.ending) in
@@ -102,16 +102,16 @@ ended_so first was mid is turns parts x x' answer outputs report report' ended r
       left = λ available may.
           let may' = may_at_end plain_otu2 (line_in_at first 0) (line_in_at was 0) (line_in_at is 0) due.read asked.further available available turns line on asked' may refl in
           let end = end_of_line plain_otu2 (line_in_at first 0) (line_in_at was 0) (line_in_at is 0) due.read asked.further available available turns line on ready.between.pieces asked' may refl in
-          let further = arrived_before available turns in
-          let held = flushed further (outputs_on first was mid further parts.outputs only.client_out (due.stands.holds available may').held) in
+          let arrived = arrived_before available turns in
+          let held = flushed arrived (outputs_on first was mid arrived parts.outputs only.client_out (due.stands.holds available may').held) in
           let more = λ (e : answer ≡ true). end.more (sym asked.tells ∙ e) in
           let all = λ (e : answer ≡ false) (h : HasMore turns available). (let none = end.none (sym asked.tells ∙ e) in let f : ⊥ = omega arith in f) in
           record {
-            outputs = outputs_sent first is further outputs none held;
-            report = wrote further held (few_arrive available turns many (due.stands.few available may'));
+            outputs = outputs_sent first is arrived outputs none held;
+            report = wrote arrived held (few_arrive available turns many (due.stands.few available may'));
             took = end.took;
-            cut = λ some. (ends further available held more all some).cut;
-            unfinished = λ some. (ends further available held more all some).unfinished;
+            cut = λ some. (ends arrived available held more all some).cut;
+            unfinished = λ some. (ends arrived available held more all some).unfinished;
           };
     }
 

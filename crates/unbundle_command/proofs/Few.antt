@@ -185,19 +185,19 @@ one_packet cid (PacketOn other packet) = by_test _
     by_test false = omega arith
 one_packet cid (LossOn other) = omega arith
 
-pub packets_few : (cid : ℕ) (further : List ChannelArrival) → length (packets_on cid further) ≤ length further
+pub packets_few : (cid : ℕ) (arrived : List ChannelArrival) → length (packets_on cid arrived) ≤ length arrived
 packets_few cid [] = omega arith
-packets_few cid (arrival ∷ further) =
-    let both = length-append (packet_on cid arrival) (packets_on cid further) in
+packets_few cid (arrival ∷ arrived) =
+    let both = length-append (packet_on cid arrival) (packets_on cid arrived) in
     let one = one_packet cid arrival in
-    let later = packets_few cid further in
+    let later = packets_few cid arrived in
     omega arith
 
-pub filter_few : (f : ChannelArrival → Bool) (further : List ChannelArrival) → length (filter f further) ≤ length further
+pub filter_few : (f : ChannelArrival → Bool) (arrived : List ChannelArrival) → length (filter f arrived) ≤ length arrived
 filter_few f [] = omega arith
-filter_few f (arrival ∷ further) = by_test (f arrival) (filter_few f further)
+filter_few f (arrival ∷ arrived) = by_test (f arrival) (filter_few f arrived)
   where
-    by_test : (b : Bool) → length (filter f further) ≤ length further → length (cond b (arrival ∷ filter f further) (filter f further)) ≤ suc (length further)
+    by_test : (b : Bool) → length (filter f arrived) ≤ length arrived → length (cond b (arrival ∷ filter f arrived) (filter f arrived)) ≤ suc (length arrived)
     by_test true few = omega (arith, few)
     by_test false few = omega (arith, few)
 

@@ -52,11 +52,11 @@ lines_flushed first old new packets text sent empty h = record {
 
 -- ---- one arrival
 
-packets_more : (cid : ℕ) (further : List ChannelArrival) (arrival : ChannelArrival) → packets_on cid (further ++ arrival ∷ []) ≡ packets_on cid further ++ packet_on cid arrival
-packets_more cid further arrival = flat_map-append (packet_on cid) further (arrival ∷ []) ∙ ap (λ ps. packets_on cid further ++ ps) (append-nil (packet_on cid arrival))
+packets_more : (cid : ℕ) (arrived : List ChannelArrival) (arrival : ChannelArrival) → packets_on cid (arrived ++ arrival ∷ []) ≡ packets_on cid arrived ++ packet_on cid arrival
+packets_more cid arrived arrival = flat_map-append (packet_on cid) arrived (arrival ∷ []) ∙ ap (λ ps. packets_on cid arrived ++ ps) (append-nil (packet_on cid arrival))
 
-count_more : (f : ChannelArrival → Bool) (further : List ChannelArrival) (arrival : ChannelArrival) → length (filter f (further ++ arrival ∷ [])) ≡ length (filter f further) + length (filter f (arrival ∷ []))
-count_more f further arrival = ap length (filter-append f further (arrival ∷ [])) ∙ length-append (filter f further) (filter f (arrival ∷ []))
+count_more : (f : ChannelArrival → Bool) (arrived : List ChannelArrival) (arrival : ChannelArrival) → length (filter f (arrived ++ arrival ∷ [])) ≡ length (filter f arrived) + length (filter f (arrival ∷ []))
+count_more f arrived arrival = ap length (filter-append f arrived (arrival ∷ [])) ∙ length-append (filter f arrived) (filter f (arrival ∷ []))
 
 counted_one : (f : ChannelArrival → Bool) (arrival : ChannelArrival) → f arrival ≡ true → length (filter f (arrival ∷ [])) ≡ 1
 counted_one f arrival e = ap (λ b. length (cond b (arrival ∷ []) [])) e
@@ -64,11 +64,11 @@ counted_one f arrival e = ap (λ b. length (cond b (arrival ∷ []) [])) e
 counted_none : (f : ChannelArrival → Bool) (arrival : ChannelArrival) → f arrival ≡ false → length (filter f (arrival ∷ [])) ≡ 0
 counted_none f arrival e = ap (λ b. length (cond b (arrival ∷ []) [])) e
 
-one_more : (f : ChannelArrival → Bool) (further : List ChannelArrival) (arrival : ChannelArrival) → f arrival ≡ true → min (saturated (length (filter f further)) + 1) (2 ^ 64 - 1) ≡ saturated (length (filter f (further ++ arrival ∷ [])))
-one_more f further arrival e = let both = count_more f further arrival in let one = counted_one f arrival e in omega arith
+one_more : (f : ChannelArrival → Bool) (arrived : List ChannelArrival) (arrival : ChannelArrival) → f arrival ≡ true → min (saturated (length (filter f arrived)) + 1) (2 ^ 64 - 1) ≡ saturated (length (filter f (arrived ++ arrival ∷ [])))
+one_more f arrived arrival e = let both = count_more f arrived arrival in let one = counted_one f arrival e in omega arith
 
-none_more : (f : ChannelArrival → Bool) (further : List ChannelArrival) (arrival : ChannelArrival) → f arrival ≡ false → saturated (length (filter f further)) ≡ saturated (length (filter f (further ++ arrival ∷ [])))
-none_more f further arrival e = let both = count_more f further arrival in let none = counted_none f arrival e in omega arith
+none_more : (f : ChannelArrival → Bool) (arrived : List ChannelArrival) (arrival : ChannelArrival) → f arrival ≡ false → saturated (length (filter f arrived)) ≡ saturated (length (filter f (arrived ++ arrival ∷ [])))
+none_more f arrived arrival e = let both = count_more f arrived arrival in let none = counted_none f arrival e in omega arith
 
 -- it is not on the channel of this CID
 pub record IsOff (cid : ℕ) (arrival : ChannelArrival) : Type 0 where
@@ -82,53 +82,53 @@ loss_off : (cid other : ℕ) → cid ≢ other → IsOff cid (LossOn other)
 loss_off cid other distinct = record { packet = refl; loss = ne_eqb other cid (λ e. distinct (sym e)) }
 
 -- then nothing changes there
-channel_off : (first now : OutView) (cid : ℕ) (further : List ChannelArrival) (arrival : ChannelArrival) (channel : ChannelView) → IsOff cid arrival → ChannelStands first now cid further channel → ChannelStands first now cid (further ++ arrival ∷ []) channel
-channel_off first now cid further arrival channel off h =
-    let same : packets_on cid (further ++ arrival ∷ []) ≡ packets_on cid further = packets_more cid further arrival ∙ ap (λ ps. packets_on cid further ++ ps) off.packet ∙ append-nil (packets_on cid further) in
+channel_off : (first now : OutView) (cid : ℕ) (arrived : List ChannelArrival) (arrival : ChannelArrival) (channel : ChannelView) → IsOff cid arrival → ChannelStands first now cid arrived channel → ChannelStands first now cid (arrived ++ arrival ∷ []) channel
+channel_off first now cid arrived arrival channel off h =
+    let same : packets_on cid (arrived ++ arrival ∷ []) ≡ packets_on cid arrived = packets_more cid arrived arrival ∙ ap (λ ps. packets_on cid arrived ++ ps) off.packet ∙ append-nil (packets_on cid arrived) in
     record {
       lines = subst (λ ps. LinesHeld first now ps channel.text) (sym same) h.lines;
       packets = h.packets ∙ sym (ap (λ (ps : List (List ℕ)). saturated (length ps)) same);
-      losses = h.losses ∙ none_more (is_loss_on cid) further arrival off.loss;
+      losses = h.losses ∙ none_more (is_loss_on cid) arrived arrival off.loss;
     }
 
 -- a packet on it
-pub channel_packet : (first old new : OutView) (cid : ℕ) (further : List ChannelArrival) (packet : List ℕ) (channel next : ChannelView)
-    → (LinesHeld first old (packets_on cid further) channel.text → LinesHeld first new (packets_on cid further ++ packet ∷ []) next.text)
-    → next.packets ≡ min (channel.packets + 1) (2 ^ 64 - 1) → next.losses ≡ channel.losses → ChannelStands first old cid further channel → ChannelStands first new cid (further ++ PacketOn cid packet ∷ []) next
-channel_packet first old new cid further packet channel next goes e f h =
-    let same : packets_on cid (further ++ PacketOn cid packet ∷ []) ≡ packets_on cid further ++ packet ∷ [] =
-    packets_more cid further (PacketOn cid packet) ∙ ap (λ ps. packets_on cid further ++ ps) (ap (λ b. cond b (packet ∷ []) []) (eq-eqb cid cid refl)) in
+pub channel_packet : (first old new : OutView) (cid : ℕ) (arrived : List ChannelArrival) (packet : List ℕ) (channel next : ChannelView)
+    → (LinesHeld first old (packets_on cid arrived) channel.text → LinesHeld first new (packets_on cid arrived ++ packet ∷ []) next.text)
+    → next.packets ≡ min (channel.packets + 1) (2 ^ 64 - 1) → next.losses ≡ channel.losses → ChannelStands first old cid arrived channel → ChannelStands first new cid (arrived ++ PacketOn cid packet ∷ []) next
+channel_packet first old new cid arrived packet channel next goes e f h =
+    let same : packets_on cid (arrived ++ PacketOn cid packet ∷ []) ≡ packets_on cid arrived ++ packet ∷ [] =
+    packets_more cid arrived (PacketOn cid packet) ∙ ap (λ ps. packets_on cid arrived ++ ps) (ap (λ b. cond b (packet ∷ []) []) (eq-eqb cid cid refl)) in
     record {
       lines = subst (λ ps. LinesHeld first new ps next.text) (sym same) (goes h.lines);
-      packets = (let count = ap length same ∙ length-append (packets_on cid further) (packet ∷ []) in let was = h.packets in omega arith);
-      losses = f ∙ h.losses ∙ none_more (is_loss_on cid) further (PacketOn cid packet) refl;
+      packets = (let count = ap length same ∙ length-append (packets_on cid arrived) (packet ∷ []) in let was = h.packets in omega arith);
+      losses = f ∙ h.losses ∙ none_more (is_loss_on cid) arrived (PacketOn cid packet) refl;
     }
 
 -- a loss of it
-pub channel_loss : (first now : OutView) (cid : ℕ) (further : List ChannelArrival) (channel next : ChannelView)
-    → next.text ≡ channel.text → next.packets ≡ channel.packets → next.losses ≡ min (channel.losses + 1) (2 ^ 64 - 1) → ChannelStands first now cid further channel → ChannelStands first now cid (further ++ LossOn cid ∷ []) next
-channel_loss first now cid further channel next d e f h =
-    let same : packets_on cid (further ++ LossOn cid ∷ []) ≡ packets_on cid further = packets_more cid further (LossOn cid) ∙ append-nil (packets_on cid further) in
+pub channel_loss : (first now : OutView) (cid : ℕ) (arrived : List ChannelArrival) (channel next : ChannelView)
+    → next.text ≡ channel.text → next.packets ≡ channel.packets → next.losses ≡ min (channel.losses + 1) (2 ^ 64 - 1) → ChannelStands first now cid arrived channel → ChannelStands first now cid (arrived ++ LossOn cid ∷ []) next
+channel_loss first now cid arrived channel next d e f h =
+    let same : packets_on cid (arrived ++ LossOn cid ∷ []) ≡ packets_on cid arrived = packets_more cid arrived (LossOn cid) ∙ append-nil (packets_on cid arrived) in
     record {
-      lines = subst (λ text. LinesHeld first now (packets_on cid (further ++ LossOn cid ∷ [])) text) (sym d) (subst (λ ps. LinesHeld first now ps channel.text) (sym same) h.lines);
+      lines = subst (λ text. LinesHeld first now (packets_on cid (arrived ++ LossOn cid ∷ [])) text) (sym d) (subst (λ ps. LinesHeld first now ps channel.text) (sym same) h.lines);
       packets = e ∙ h.packets ∙ sym (ap (λ (ps : List (List ℕ)). saturated (length ps)) same);
-      losses = f ∙ ap (λ n. min (n + 1) (2 ^ 64 - 1)) h.losses ∙ one_more (is_loss_on cid) further (LossOn cid) (eq-eqb cid cid refl);
+      losses = f ∙ ap (λ n. min (n + 1) (2 ^ 64 - 1)) h.losses ∙ one_more (is_loss_on cid) arrived (LossOn cid) (eq-eqb cid cid refl);
     }
 
 -- its lines leave
-pub channel_flushed : (first old new : OutView) (cid : ℕ) (further : List ChannelArrival) (channel next : ChannelView)
-    → (LinesHeld first old (packets_on cid further) channel.text → LinesHeld first new (packets_on cid further) next.text)
-    → next.packets ≡ channel.packets → next.losses ≡ channel.losses → ChannelStands first old cid further channel → ChannelStands first new cid further next
-channel_flushed first old new cid further channel next goes e f h = record { lines = goes h.lines; packets = e ∙ h.packets; losses = f ∙ h.losses }
+pub channel_flushed : (first old new : OutView) (cid : ℕ) (arrived : List ChannelArrival) (channel next : ChannelView)
+    → (LinesHeld first old (packets_on cid arrived) channel.text → LinesHeld first new (packets_on cid arrived) next.text)
+    → next.packets ≡ channel.packets → next.losses ≡ channel.losses → ChannelStands first old cid arrived channel → ChannelStands first new cid arrived next
+channel_flushed first old new cid arrived channel next goes e f h = record { lines = goes h.lines; packets = e ∙ h.packets; losses = f ∙ h.losses }
 
 -- ---- all channels
 
 -- where one channel and its place alone change
-channels_set : (first was is : BaysView) (further more : List ChannelArrival) (cid : ℕ) (channels : List ChannelView) (next : ChannelView) → cid < length channels → OnlyClientOut cid was is
-    → ((other : ℕ) → other ≢ cid → (place now : OutView) (channel : ChannelView) → ChannelStands place now other further channel → ChannelStands place now other more channel)
-    → (ChannelStands (client_out_at first cid) (client_out_at was cid) cid further (channel_at channels cid) → ChannelStands (client_out_at first cid) (client_out_at is cid) cid more next)
-    → ChannelsStand first was further channels → ChannelsStand first is more (set channels cid next)
-channels_set first was is further more cid channels next within only off on h = record { each = by_cid }
+channels_set : (first was is : BaysView) (arrived more : List ChannelArrival) (cid : ℕ) (channels : List ChannelView) (next : ChannelView) → cid < length channels → OnlyClientOut cid was is
+    → ((other : ℕ) → other ≢ cid → (place now : OutView) (channel : ChannelView) → ChannelStands place now other arrived channel → ChannelStands place now other more channel)
+    → (ChannelStands (client_out_at first cid) (client_out_at was cid) cid arrived (channel_at channels cid) → ChannelStands (client_out_at first cid) (client_out_at is cid) cid more next)
+    → ChannelsStand first was arrived channels → ChannelsStand first is more (set channels cid next)
+channels_set first was is arrived more cid channels next within only off on h = record { each = by_cid }
   where
     at_other : (d : ℕ) → d < CLIENTS → d ≢ cid → ChannelStands (client_out_at first d) (client_out_at is d) d more (channel_at (set channels cid next) d)
     at_other d low other =
@@ -151,42 +151,42 @@ channels_set first was is further more cid channels next within only off on h = 
       ]
     ]
 
-pub packet_put : (first was is : BaysView) (further : List ChannelArrival) (cid : ℕ) (packet : List ℕ) (channels : List ChannelView) (channel next : ChannelView) (old new : OutView) → slice_get channels cid ≡ Some channel
+pub packet_put : (first was is : BaysView) (arrived : List ChannelArrival) (cid : ℕ) (packet : List ℕ) (channels : List ChannelView) (channel next : ChannelView) (old new : OutView) → slice_get channels cid ≡ Some channel
     → OnlyClientOut cid was is → client_out_at was cid ≡ old → client_out_at is cid ≡ new
     → ((place : OutView) (packets : List (List ℕ)) → LinesHeld place old packets channel.text → LinesHeld place new (packets ++ packet ∷ []) next.text)
     → next.packets ≡ min (channel.packets + 1) (2 ^ 64 - 1) → next.losses ≡ channel.losses
-    → ChannelsStand first was further channels → ChannelsStand first is (further ++ PacketOn cid packet ∷ []) (set channels cid next)
-packet_put first was is further cid packet channels channel next old new got only a b goes e f h =
-    channels_set first was is further (further ++ PacketOn cid packet ∷ []) cid channels next (slice_get_within channels cid channel got) only
-    (λ other distinct place now view k. channel_off place now other further (PacketOn cid packet) view (packet_off other cid packet distinct) k)
-    (λ k. subst (λ v. ChannelStands (client_out_at first cid) v cid (further ++ PacketOn cid packet ∷ []) next) (sym b)
-    (channel_packet (client_out_at first cid) old new cid further packet channel next (goes (client_out_at first cid) (packets_on cid further)) e f
-    (subst (λ v. ChannelStands (client_out_at first cid) v cid further channel) a
-    (subst (λ ch. ChannelStands (client_out_at first cid) (client_out_at was cid) cid further ch) (get_or_from_slice_get channels cid channel no_channel got) k)))) h
+    → ChannelsStand first was arrived channels → ChannelsStand first is (arrived ++ PacketOn cid packet ∷ []) (set channels cid next)
+packet_put first was is arrived cid packet channels channel next old new got only a b goes e f h =
+    channels_set first was is arrived (arrived ++ PacketOn cid packet ∷ []) cid channels next (slice_get_within channels cid channel got) only
+    (λ other distinct place now view k. channel_off place now other arrived (PacketOn cid packet) view (packet_off other cid packet distinct) k)
+    (λ k. subst (λ v. ChannelStands (client_out_at first cid) v cid (arrived ++ PacketOn cid packet ∷ []) next) (sym b)
+    (channel_packet (client_out_at first cid) old new cid arrived packet channel next (goes (client_out_at first cid) (packets_on cid arrived)) e f
+    (subst (λ v. ChannelStands (client_out_at first cid) v cid arrived channel) a
+    (subst (λ ch. ChannelStands (client_out_at first cid) (client_out_at was cid) cid arrived ch) (get_or_from_slice_get channels cid channel no_channel got) k)))) h
 
 pub only_none : (cid : ℕ) (bays : BaysView) → OnlyClientOut cid bays bays
 only_none cid bays = record { line_in = refl; line_out = refl; client_in = refl; client_out = λ m other. refl }
 
-pub loss_put : (first now : BaysView) (further : List ChannelArrival) (cid : ℕ) (channels : List ChannelView) (channel next : ChannelView) → slice_get channels cid ≡ Some channel
+pub loss_put : (first now : BaysView) (arrived : List ChannelArrival) (cid : ℕ) (channels : List ChannelView) (channel next : ChannelView) → slice_get channels cid ≡ Some channel
     → next.text ≡ channel.text → next.packets ≡ channel.packets → next.losses ≡ min (channel.losses + 1) (2 ^ 64 - 1)
-    → ChannelsStand first now further channels → ChannelsStand first now (further ++ LossOn cid ∷ []) (set channels cid next)
-loss_put first now further cid channels channel next got d e f h =
-    channels_set first now now further (further ++ LossOn cid ∷ []) cid channels next (slice_get_within channels cid channel got) (only_none cid now)
-    (λ other distinct place out view k. channel_off place out other further (LossOn cid) view (loss_off other cid distinct) k)
-    (λ k. channel_loss (client_out_at first cid) (client_out_at now cid) cid further channel next d e f
-    (subst (λ ch. ChannelStands (client_out_at first cid) (client_out_at now cid) cid further ch) (get_or_from_slice_get channels cid channel no_channel got) k)) h
+    → ChannelsStand first now arrived channels → ChannelsStand first now (arrived ++ LossOn cid ∷ []) (set channels cid next)
+loss_put first now arrived cid channels channel next got d e f h =
+    channels_set first now now arrived (arrived ++ LossOn cid ∷ []) cid channels next (slice_get_within channels cid channel got) (only_none cid now)
+    (λ other distinct place out view k. channel_off place out other arrived (LossOn cid) view (loss_off other cid distinct) k)
+    (λ k. channel_loss (client_out_at first cid) (client_out_at now cid) cid arrived channel next d e f
+    (subst (λ ch. ChannelStands (client_out_at first cid) (client_out_at now cid) cid arrived ch) (get_or_from_slice_get channels cid channel no_channel got) k)) h
 
-pub one_flushed : (first was is : BaysView) (further : List ChannelArrival) (cid : ℕ) (channels : List ChannelView) (channel next : ChannelView) (old new : OutView) → slice_get channels cid ≡ Some channel
+pub one_flushed : (first was is : BaysView) (arrived : List ChannelArrival) (cid : ℕ) (channels : List ChannelView) (channel next : ChannelView) (old new : OutView) → slice_get channels cid ≡ Some channel
     → OnlyClientOut cid was is → client_out_at was cid ≡ old → client_out_at is cid ≡ new
     → ((place : OutView) (packets : List (List ℕ)) → LinesHeld place old packets channel.text → LinesHeld place new packets next.text)
-    → next.packets ≡ channel.packets → next.losses ≡ channel.losses → ChannelsStand first was further channels → ChannelsStand first is further (set channels cid next)
-one_flushed first was is further cid channels channel next old new got only a b goes e f h =
-    channels_set first was is further further cid channels next (slice_get_within channels cid channel got) only
+    → next.packets ≡ channel.packets → next.losses ≡ channel.losses → ChannelsStand first was arrived channels → ChannelsStand first is arrived (set channels cid next)
+one_flushed first was is arrived cid channels channel next old new got only a b goes e f h =
+    channels_set first was is arrived arrived cid channels next (slice_get_within channels cid channel got) only
     (λ other distinct place now view k. k)
-    (λ k. subst (λ v. ChannelStands (client_out_at first cid) v cid further next) (sym b)
-    (channel_flushed (client_out_at first cid) old new cid further channel next (goes (client_out_at first cid) (packets_on cid further)) e f
-    (subst (λ v. ChannelStands (client_out_at first cid) v cid further channel) a
-    (subst (λ ch. ChannelStands (client_out_at first cid) (client_out_at was cid) cid further ch) (get_or_from_slice_get channels cid channel no_channel got) k)))) h
+    (λ k. subst (λ v. ChannelStands (client_out_at first cid) v cid arrived next) (sym b)
+    (channel_flushed (client_out_at first cid) old new cid arrived channel next (goes (client_out_at first cid) (packets_on cid arrived)) e f
+    (subst (λ v. ChannelStands (client_out_at first cid) v cid arrived channel) a
+    (subst (λ ch. ChannelStands (client_out_at first cid) (client_out_at was cid) cid arrived ch) (get_or_from_slice_get channels cid channel no_channel got) k)))) h
 
 -- one channel more holds no line
 pub none_held : (cid : ℕ) (channels : List ChannelView) (channel next : ChannelView) → slice_get channels cid ≡ Some channel → next.text ≡ [] → NoneHeld cid channels → NoneHeld (cid + 1) (set channels cid next)
@@ -228,30 +228,30 @@ is_not_other : (cid : ℕ) → cid < CLIENTS → nat_le CLIENTS cid ≡ false
 is_not_other cid low = grind (arith, nat_tests)
 
 -- an arrival on a channel without an output
-pub other_packet : (first now : BaysView) (further : List ChannelArrival) (cid : ℕ) (packet : List ℕ) (old : OutputsView) (other : ℕ) → CLIENTS ≤ cid → other ≡ min (old.other + 1) (2 ^ 64 - 1)
-    → OutputsStand first now further old → OutputsStand first now (further ++ PacketOn cid packet ∷ []) (record { channels = old.channels; other = other })
-other_packet first now further cid packet old other high e h = record {
-  channels = record { each = λ d low. channel_off (client_out_at first d) (client_out_at now d) d further (PacketOn cid packet) (channel_at old.channels d) (packet_off d cid packet (λ e. omega arith)) (h.channels.each d low) };
-  other = e ∙ ap (λ n. min (n + 1) (2 ^ 64 - 1)) h.other ∙ one_more is_of_other further (PacketOn cid packet) (is_other cid high);
+pub other_packet : (first now : BaysView) (arrived : List ChannelArrival) (cid : ℕ) (packet : List ℕ) (old : OutputsView) (other : ℕ) → CLIENTS ≤ cid → other ≡ min (old.other + 1) (2 ^ 64 - 1)
+    → OutputsStand first now arrived old → OutputsStand first now (arrived ++ PacketOn cid packet ∷ []) (record { channels = old.channels; other = other })
+other_packet first now arrived cid packet old other high e h = record {
+  channels = record { each = λ d low. channel_off (client_out_at first d) (client_out_at now d) d arrived (PacketOn cid packet) (channel_at old.channels d) (packet_off d cid packet (λ e. omega arith)) (h.channels.each d low) };
+  other = e ∙ ap (λ n. min (n + 1) (2 ^ 64 - 1)) h.other ∙ one_more is_of_other arrived (PacketOn cid packet) (is_other cid high);
 }
 
-pub other_loss : (first now : BaysView) (further : List ChannelArrival) (cid : ℕ) (old : OutputsView) (other : ℕ) → CLIENTS ≤ cid → other ≡ min (old.other + 1) (2 ^ 64 - 1)
-    → OutputsStand first now further old → OutputsStand first now (further ++ LossOn cid ∷ []) (record { channels = old.channels; other = other })
-other_loss first now further cid old other high e h = record {
-  channels = record { each = λ d low. channel_off (client_out_at first d) (client_out_at now d) d further (LossOn cid) (channel_at old.channels d) (loss_off d cid (λ e. omega arith)) (h.channels.each d low) };
-  other = e ∙ ap (λ n. min (n + 1) (2 ^ 64 - 1)) h.other ∙ one_more is_of_other further (LossOn cid) (is_other cid high);
+pub other_loss : (first now : BaysView) (arrived : List ChannelArrival) (cid : ℕ) (old : OutputsView) (other : ℕ) → CLIENTS ≤ cid → other ≡ min (old.other + 1) (2 ^ 64 - 1)
+    → OutputsStand first now arrived old → OutputsStand first now (arrived ++ LossOn cid ∷ []) (record { channels = old.channels; other = other })
+other_loss first now arrived cid old other high e h = record {
+  channels = record { each = λ d low. channel_off (client_out_at first d) (client_out_at now d) d arrived (LossOn cid) (channel_at old.channels d) (loss_off d cid (λ e. omega arith)) (h.channels.each d low) };
+  other = e ∙ ap (λ n. min (n + 1) (2 ^ 64 - 1)) h.other ∙ one_more is_of_other arrived (LossOn cid) (is_other cid high);
 }
 
 -- on one with an output
-pub own_packet : (first was is : BaysView) (further : List ChannelArrival) (cid : ℕ) (packet : List ℕ) (old : OutputsView) (channels : List ChannelView) → cid < CLIENTS
-    → (ChannelsStand first was further old.channels → ChannelsStand first is (further ++ PacketOn cid packet ∷ []) channels)
-    → OutputsStand first was further old → OutputsStand first is (further ++ PacketOn cid packet ∷ []) (record { channels = channels; other = old.other })
-own_packet first was is further cid packet old channels low goes h = record { channels = goes h.channels; other = h.other ∙ none_more is_of_other further (PacketOn cid packet) (is_not_other cid low) }
+pub own_packet : (first was is : BaysView) (arrived : List ChannelArrival) (cid : ℕ) (packet : List ℕ) (old : OutputsView) (channels : List ChannelView) → cid < CLIENTS
+    → (ChannelsStand first was arrived old.channels → ChannelsStand first is (arrived ++ PacketOn cid packet ∷ []) channels)
+    → OutputsStand first was arrived old → OutputsStand first is (arrived ++ PacketOn cid packet ∷ []) (record { channels = channels; other = old.other })
+own_packet first was is arrived cid packet old channels low goes h = record { channels = goes h.channels; other = h.other ∙ none_more is_of_other arrived (PacketOn cid packet) (is_not_other cid low) }
 
-pub own_loss : (first now : BaysView) (further : List ChannelArrival) (cid : ℕ) (old : OutputsView) (channels : List ChannelView) → cid < CLIENTS
-    → (ChannelsStand first now further old.channels → ChannelsStand first now (further ++ LossOn cid ∷ []) channels)
-    → OutputsStand first now further old → OutputsStand first now (further ++ LossOn cid ∷ []) (record { channels = channels; other = old.other })
-own_loss first now further cid old channels low goes h = record { channels = goes h.channels; other = h.other ∙ none_more is_of_other further (LossOn cid) (is_not_other cid low) }
+pub own_loss : (first now : BaysView) (arrived : List ChannelArrival) (cid : ℕ) (old : OutputsView) (channels : List ChannelView) → cid < CLIENTS
+    → (ChannelsStand first now arrived old.channels → ChannelsStand first now (arrived ++ LossOn cid ∷ []) channels)
+    → OutputsStand first now arrived old → OutputsStand first now (arrived ++ LossOn cid ∷ []) (record { channels = channels; other = old.other })
+own_loss first now arrived cid old channels low goes h = record { channels = goes h.channels; other = h.other ∙ none_more is_of_other arrived (LossOn cid) (is_not_other cid low) }
 
 -- ---- the other places
 

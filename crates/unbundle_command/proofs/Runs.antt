@@ -89,38 +89,38 @@ same_read : (xs ys : List ℕ) (reader : ReaderState) → xs ≡ ys → HasRead 
 same_read xs ys reader e h = let P : List ℕ → Type 0 = λ x. HasRead x reader in subst P e h
 
 -- the run that is open is read on
-pub goes_on : (first now : BaysView) (further : List Arrival) (reader : ReaderState) (outputs : OutputsView) → AllRead first now further reader outputs
-    → RunRead first now (flat_map channel_arrivals (before further)) (open_run further) reader outputs
-goes_on first now further reader outputs h = record {
+pub goes_on : (first now : BaysView) (arrived : List Arrival) (reader : ReaderState) (outputs : OutputsView) → AllRead first now arrived reader outputs
+    → RunRead first now (flat_map channel_arrivals (before arrived)) (open_run arrived) reader outputs
+goes_on first now arrived reader outputs h = record {
   has_read = h.has_read;
-  held = same_held first now (flat_map channel_arrivals (runs_of further)) (flat_map channel_arrivals (before further) ++ channel_arrivals (open_run further)) outputs (arrived-same further) h.held;
+  held = same_held first now (flat_map channel_arrivals (runs_of arrived)) (flat_map channel_arrivals (before arrived) ++ channel_arrivals (open_run arrived)) outputs (arrived-same arrived) h.held;
 }
 
-pub whole_read : (first now : BaysView) (further : List Arrival) (frame : List ℕ) (reader : ReaderState) (outputs : OutputsView)
-    → RunRead first now (flat_map channel_arrivals (before further)) (open_run further ++ payload_of frame) reader outputs → AllRead first now (further ++ Handed frame ∷ []) reader outputs
-whole_read first now further frame reader outputs h = record {
+pub whole_read : (first now : BaysView) (arrived : List Arrival) (frame : List ℕ) (reader : ReaderState) (outputs : OutputsView)
+    → RunRead first now (flat_map channel_arrivals (before arrived)) (open_run arrived ++ payload_of frame) reader outputs → AllRead first now (arrived ++ Handed frame ∷ []) reader outputs
+whole_read first now arrived frame reader outputs h = record {
   has_read =
-      same_read (open_run further ++ payload_of frame) (last_run (runs_of (further ++ Handed frame ∷ []))) reader
-      (sym (ap last_run (runs-handed further frame) ∙ last-append (before further) (open_run further ++ payload_of frame))) h.has_read;
+      same_read (open_run arrived ++ payload_of frame) (last_run (runs_of (arrived ++ Handed frame ∷ []))) reader
+      (sym (ap last_run (runs-handed arrived frame) ∙ last-append (before arrived) (open_run arrived ++ payload_of frame))) h.has_read;
   held =
-      same_held first now (flat_map channel_arrivals (before further) ++ channel_arrivals (open_run further ++ payload_of frame)) (flat_map channel_arrivals (runs_of (further ++ Handed frame ∷ []))) outputs
-      (sym (arrived-handed further frame)) h.held;
+      same_held first now (flat_map channel_arrivals (before arrived) ++ channel_arrivals (open_run arrived ++ payload_of frame)) (flat_map channel_arrivals (runs_of (arrived ++ Handed frame ∷ []))) outputs
+      (sym (arrived-handed arrived frame)) h.held;
 }
 
 -- a break begins a run
-pub break_read : (first now : BaysView) (further : List Arrival) (old new : ReaderState) (outputs : OutputsView) → HasRead [] new → AllRead first now further old outputs → AllRead first now (further ++ Broken ∷ []) new outputs
-break_read first now further old new outputs fresh h = record {
+pub break_read : (first now : BaysView) (arrived : List Arrival) (old new : ReaderState) (outputs : OutputsView) → HasRead [] new → AllRead first now arrived old outputs → AllRead first now (arrived ++ Broken ∷ []) new outputs
+break_read first now arrived old new outputs fresh h = record {
   has_read =
-      same_read [] (last_run (runs_of (further ++ Broken ∷ []))) new
-      (sym (ap last_run (runs-broken further) ∙ last-append (before further ++ open_run further ∷ []) [])) fresh;
-  held = same_held first now (flat_map channel_arrivals (runs_of further)) (flat_map channel_arrivals (runs_of (further ++ Broken ∷ []))) outputs (sym (arrived-broken further)) h.held;
+      same_read [] (last_run (runs_of (arrived ++ Broken ∷ []))) new
+      (sym (ap last_run (runs-broken arrived) ∙ last-append (before arrived ++ open_run arrived ∷ []) [])) fresh;
+  held = same_held first now (flat_map channel_arrivals (runs_of arrived)) (flat_map channel_arrivals (runs_of (arrived ++ Broken ∷ []))) outputs (sym (arrived-broken arrived)) h.held;
 }
 
-pub nothing_read : (first now : BaysView) (further : List Arrival) (reader : ReaderState) (outputs : OutputsView) → AllRead first now further reader outputs → AllRead first now (further ++ []) reader outputs
-nothing_read first now further reader outputs h = let P : List Arrival → Type 0 = λ x. AllRead first now x reader outputs in subst P (sym (append-nil further)) h
+pub nothing_read : (first now : BaysView) (arrived : List Arrival) (reader : ReaderState) (outputs : OutputsView) → AllRead first now arrived reader outputs → AllRead first now (arrived ++ []) reader outputs
+nothing_read first now arrived reader outputs h = let P : List Arrival → Type 0 = λ x. AllRead first now x reader outputs in subst P (sym (append-nil arrived)) h
 
-pub none_more : (first now : BaysView) (further : List ChannelArrival) (outputs : OutputsView) → OutputsStand first now further outputs → OutputsStand first now (further ++ []) outputs
-none_more first now further outputs = same_held first now further (further ++ []) outputs (sym (append-nil further))
+pub none_more : (first now : BaysView) (arrived : List ChannelArrival) (outputs : OutputsView) → OutputsStand first now arrived outputs → OutputsStand first now (arrived ++ []) outputs
+none_more first now arrived outputs = same_held first now arrived (arrived ++ []) outputs (sym (append-nil arrived))
 
 -- some bytes more of a run, in which this arrives
 pub run_more : (first old new : BaysView) (earlier : List ChannelArrival) (read further : List ℕ) (more : List ChannelArrival) (was is : ReaderState) (outputs next : OutputsView)

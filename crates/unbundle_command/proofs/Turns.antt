@@ -49,10 +49,10 @@ span bytes first last ordered within = sym (simp (length-take, length-drop) (ome
 -- ---- places
 
 -- where the client outputs are as they were
-pub outputs_on : (first was is : BaysView) (further : List ChannelArrival) (outputs : OutputsView) → is.client_out ≡ was.client_out → OutputsStand first was further outputs → OutputsStand first is further outputs
-outputs_on first was is further outputs e h = record {
+pub outputs_on : (first was is : BaysView) (arrived : List ChannelArrival) (outputs : OutputsView) → is.client_out ≡ was.client_out → OutputsStand first was arrived outputs → OutputsStand first is arrived outputs
+outputs_on first was is arrived outputs e h = record {
   channels = record {
-    each = λ cid low. subst (λ places. ChannelStands (client_out_at first cid) (get_or places cid no_output) cid further (channel_at outputs.channels cid)) (sym e) (h.channels.each cid low);
+    each = λ cid low. subst (λ places. ChannelStands (client_out_at first cid) (get_or places cid no_output) cid arrived (channel_at outputs.channels cid)) (sym e) (h.channels.each cid low);
   };
   other = h.other;
 }

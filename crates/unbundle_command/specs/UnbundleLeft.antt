@@ -10,7 +10,7 @@ use Rattle.packet_text.specs.PacketText.{hex_text}
 use Rattle.line_side.specs.LineForm.{plain_otu2}
 use Rattle.gfp_linear.specs.ChannelArrivals.{ChannelArrival}
 use Rattle.gfp_linear.specs.Laws.{packets_on}
-use Rattle.device_model.specs.Moments.{line_taken}
+use Rattle.device_model.specs.Moments.{line_read}
 use Rattle.device_model.specs.LineAsked.{MayHave, InputLeft}
 use Rattle.unbundle_command.specs.Unbundled.{arrived_before, report_text}
 use Rattle.otn_ports.specs.declared.ended.Ended.{Ended}
@@ -18,25 +18,25 @@ use Rattle.otn_ports.specs.declared.ended.Ended.TheVariants.{Done, Unfinished, C
 
 -- the line has more than so many turns want
 abbrev pub HasMore : (turns : ℕ) → (available : List ℕ) → Type 0
-HasMore turns available = line_taken plain_otu2 available turns 0 < length available
+HasMore turns available = line_read plain_otu2 available turns 0 < length available
 
 -- a client output is dead, and a packet of its channel arrived
-pub record IsOutputDead (further : List ChannelArrival) (last : BaysView) : Type 0 where
+pub record IsOutputDead (arrived : List ChannelArrival) (last : BaysView) : Type 0 where
   pub cid : ℕ
   pub low : cid < CLIENTS
-  pub arrived : packets_on cid further ≢ []
+  pub some : packets_on cid arrived ≢ []
   pub dead : (client_out_at last cid).state ≡ Dead
 
 -- a place that the command used is dead
 abbrev pub IsCut : List ChannelArrival → BaysView → Type 0
-IsCut further last = ((line_in_at last 0).state ≡ Dead) ⊎ IsOutputDead further last
+IsCut arrived last = ((line_in_at last 0).state ≡ Dead) ⊎ IsOutputDead arrived last
 
 -- To the client output of each channel the text of the packets that arrived on it was due; where none did it is as it
 -- was.
-pub record OutputsSent (further : List ChannelArrival) (first last : BaysView) : Type 0 where
-  pub sent : (cid : ℕ) → cid < CLIENTS → IsSent (client_out_at first cid) (hex_text (packets_on cid further))
+pub record OutputsSent (arrived : List ChannelArrival) (first last : BaysView) : Type 0 where
+  pub sent : (cid : ℕ) → cid < CLIENTS → IsSent (client_out_at first cid) (hex_text (packets_on cid arrived))
       (client_out_at last cid)
-  pub quiet : (cid : ℕ) → cid < CLIENTS → packets_on cid further ≡ [] → client_out_at last cid ≡ client_out_at first cid
+  pub quiet : (cid : ℕ) → cid < CLIENTS → packets_on cid arrived ≡ [] → client_out_at last cid ≡ client_out_at first cid
 
 -- the report was written whole, unless it failed
 abbrev pub written_by : Ended → Written
@@ -48,13 +48,13 @@ written_by Cut = written.Whole
 
 -- With these bytes of the line, and where these arrived on channels: what went to the client outputs and the report,
 -- how much was taken of the line, and how the command ended.
-pub record UnbundleOf (turns : ℕ) (available read : List ℕ) (further : List ChannelArrival) (first last : BaysView)
+pub record UnbundleOf (turns : ℕ) (available read : List ℕ) (arrived : List ChannelArrival) (first last : BaysView)
     (was is : SinkView) (ended : Ended) : Type 0 where
-  pub outputs : OutputsSent further first last
-  pub report : SinkWrites (written_by ended) was (report_text further) is
-  pub took : length read ≡ min (length available) (suc (line_taken plain_otu2 available turns 0))
-  pub cut : ended ≢ ReportFault → (ended ≡ Cut) ↔ IsCut further last
-  pub unfinished : ended ≢ ReportFault → (ended ≡ Unfinished) ↔ ((IsCut further last → ⊥) × HasMore turns available)
+  pub outputs : OutputsSent arrived first last
+  pub report : SinkWrites (written_by ended) was (report_text arrived) is
+  pub took : length read ≡ min (length available) (suc (line_read plain_otu2 available turns 0))
+  pub cut : ended ≢ ReportFault → (ended ≡ Cut) ↔ IsCut arrived last
+  pub unfinished : ended ≢ ReportFault → (ended ≡ Unfinished) ↔ ((IsCut arrived last → ⊥) × HasMore turns available)
 
 -- These bytes were taken of the line. More may stand behind them; whatever they all turn out to be, this is left.
 pub record UnbundleRan (turns : ℕ) (first last : BaysView) (was is : SinkView) (ended : Ended) : Type 0 where

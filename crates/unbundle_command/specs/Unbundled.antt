@@ -44,13 +44,13 @@ is_of_other (LossOn cid) = nat_le CLIENTS cid
 -- how many packets and how many losses arrive on a channel, and how many arrivals are of channels without a client
 -- output
 abbrev pub packet_count : (cid : ℕ) → List ChannelArrival → ℕ
-packet_count cid further = length (packets_on cid further)
+packet_count cid arrived = length (packets_on cid arrived)
 
 abbrev pub loss_count : (cid : ℕ) → List ChannelArrival → ℕ
-loss_count cid further = length (filter (is_loss_on cid) further)
+loss_count cid arrived = length (filter (is_loss_on cid) arrived)
 
 abbrev pub other_count : List ChannelArrival → ℕ
-other_count further = length (filter is_of_other further)
+other_count arrived = length (filter is_of_other arrived)
 
 -- ---- the report
 
@@ -65,7 +65,7 @@ channel_line cid packets losses = if nat_lt 0 packets || nat_lt 0 losses then ch
 
 -- the lines of the first channels, so many
 abbrev pub channel_lines : List ChannelArrival → (count : ℕ) → List ℕ
-channel_lines further count = flat_map (λ cid. channel_line cid (packet_count cid further) (loss_count cid further))
+channel_lines arrived count = flat_map (λ cid. channel_line cid (packet_count cid arrived) (loss_count cid arrived))
     (range_with_len 0 count)
 
 -- the line of the other channels
@@ -75,4 +75,4 @@ other_text count = line_of (codes "other " ∷ decimal count ∷ [])
 -- the report on what arrived: a line for each channel with a client output on which something did, and how much arrived
 -- on others
 unfoldable pub report_text : List ChannelArrival → List ℕ
-report_text further = channel_lines further CLIENTS ++ other_text (other_count further)
+report_text arrived = channel_lines arrived CLIENTS ++ other_text (other_count arrived)

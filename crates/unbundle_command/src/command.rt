@@ -65,7 +65,7 @@ fn run_turns<I: Source, O: Sink>(
 )
     requires ready { IsReady parts.old }
     requires room { vec_len room.old ≡ GROUPS + 1 }
-    ensures due { (first : BaysView) → TurnsGone first (bays_view I.Source O.Sink bays.old) 0 parts.old
+    ensures gone { (first : BaysView) → TurnsGone first (bays_view I.Source O.Sink bays.old) 0 parts.old
         → TurnsGone first (bays_view I.Source O.Sink bays.new) turns parts.new }
     ensures ready { IsReady parts.new }
     ensures alone { OnlyUnbundled (bays_view I.Source O.Sink bays.old) (bays_view I.Source O.Sink bays.new) }

@@ -67,9 +67,9 @@ impl Outputs {
     /// This arrived: the line of a packet is due to its channel's client output.
     pub(crate) fn take<I: Source, O: Sink>(&mut self, arrival: Arrival<'_>, bays: &mut Rack<I, O>)
         requires sized { IsSized (seen arrival) }
-        ensures stands { (first : BaysView) (further : List ChannelArrival)
-            → OutputsStand first (bays_view I.Source O.Sink bays.old) further self.old
-            → OutputsStand first (bays_view I.Source O.Sink bays.new) (further ++ seen arrival.entry ∷ []) self.new }
+        ensures stands { (first : BaysView) (arrived : List ChannelArrival)
+            → OutputsStand first (bays_view I.Source O.Sink bays.old) arrived self.old
+            → OutputsStand first (bays_view I.Source O.Sink bays.new) (arrived ++ seen arrival.entry ∷ []) self.new }
         ensures alone { OnlyClientsOut (bays_view I.Source O.Sink bays.old) (bays_view I.Source O.Sink bays.new) }
     {
         match arrival {
@@ -80,9 +80,9 @@ impl Outputs {
 
     fn take_packet<I: Source, O: Sink>(&mut self, cid: u8, packet: &[u8], bays: &mut Rack<I, O>)
         requires fits { length packet.now ≤ MOST_DELIVERED }
-        ensures stands { (first : BaysView) (further : List ChannelArrival)
-            → OutputsStand first (bays_view I.Source O.Sink bays.old) further self.old
-            → OutputsStand first (bays_view I.Source O.Sink bays.new) (further ++ PacketOn cid packet.now ∷ [])
+        ensures stands { (first : BaysView) (arrived : List ChannelArrival)
+            → OutputsStand first (bays_view I.Source O.Sink bays.old) arrived self.old
+            → OutputsStand first (bays_view I.Source O.Sink bays.new) (arrived ++ PacketOn cid packet.now ∷ [])
             self.new }
         ensures alone { OnlyClientsOut (bays_view I.Source O.Sink bays.old) (bays_view I.Source O.Sink bays.new) }
     {
@@ -94,8 +94,8 @@ impl Outputs {
     }
 
     fn take_loss(&mut self, cid: u8)
-        ensures { (first now : BaysView) (further : List ChannelArrival) → OutputsStand first now further self.old
-            → OutputsStand first now (further ++ LossOn cid ∷ []) self.new }
+        ensures { (first now : BaysView) (arrived : List ChannelArrival) → OutputsStand first now arrived self.old
+            → OutputsStand first now (arrived ++ LossOn cid ∷ []) self.new }
     {
         if !has_output(cid) {
             self.count_other();
@@ -113,9 +113,9 @@ impl Outputs {
 
     /// All lines leave.
     pub(crate) fn flush<I: Source, O: Sink>(&mut self, bays: &mut Rack<I, O>)
-        ensures stands { (first : BaysView) (further : List ChannelArrival)
-            → OutputsStand first (bays_view I.Source O.Sink bays.old) further self.old
-            → OutputsStand first (bays_view I.Source O.Sink bays.new) further self.new }
+        ensures stands { (first : BaysView) (arrived : List ChannelArrival)
+            → OutputsStand first (bays_view I.Source O.Sink bays.old) arrived self.old
+            → OutputsStand first (bays_view I.Source O.Sink bays.new) arrived self.new }
         ensures none { NoneHeld CLIENTS self.new.channels }
         ensures alone { OnlyClientsOut (bays_view I.Source O.Sink bays.old) (bays_view I.Source O.Sink bays.new) }
     {
@@ -153,10 +153,10 @@ fn put_packet<I: Source, O: Sink>(
     requires low { cid < CLIENTS }
     requires fits { length packet.now ≤ MOST_DELIVERED }
     ensures many { vec_len channels.new ≡ CLIENTS }
-    ensures stands { (first : BaysView) (further : List ChannelArrival)
-        → ChannelsStand first (bays_view I.Source O.Sink bays.old) further channels.old.items
+    ensures stands { (first : BaysView) (arrived : List ChannelArrival)
+        → ChannelsStand first (bays_view I.Source O.Sink bays.old) arrived channels.old.items
         → ChannelsStand first (bays_view I.Source O.Sink bays.new)
-        (further ++ PacketOn cid packet.now ∷ []) channels.new.items }
+        (arrived ++ PacketOn cid packet.now ∷ []) channels.new.items }
     ensures alone { OnlyClientsOut (bays_view I.Source O.Sink bays.old) (bays_view I.Source O.Sink bays.new) }
 {
     channels[cid as usize].take(packet, digits, bays.client_out_mut(cid));
@@ -167,9 +167,9 @@ fn put_loss(channels: &mut Vec<Channel>, cid: u8)
     requires many { vec_len channels.old ≡ CLIENTS }
     requires low { cid < CLIENTS }
     ensures many { vec_len channels.new ≡ CLIENTS }
-    ensures stands { (first now : BaysView) (further : List ChannelArrival)
-        → ChannelsStand first now further channels.old.items
-        → ChannelsStand first now (further ++ LossOn cid ∷ []) channels.new.items }
+    ensures stands { (first now : BaysView) (arrived : List ChannelArrival)
+        → ChannelsStand first now arrived channels.old.items
+        → ChannelsStand first now (arrived ++ LossOn cid ∷ []) channels.new.items }
 {
     channels[cid as usize].lose();
 }
@@ -180,9 +180,9 @@ ghost use Rattle.unbundle_command.specs.Steps.Receiving.{NoneHeld};
 fn flush_all<I: Source, O: Sink>(channels: &mut Vec<Channel>, bays: &mut Rack<I, O>)
     requires many { vec_len channels.old ≡ CLIENTS }
     ensures many { vec_len channels.new ≡ CLIENTS }
-    ensures stands { (first : BaysView) (further : List ChannelArrival)
-        → ChannelsStand first (bays_view I.Source O.Sink bays.old) further channels.old.items
-        → ChannelsStand first (bays_view I.Source O.Sink bays.new) further channels.new.items }
+    ensures stands { (first : BaysView) (arrived : List ChannelArrival)
+        → ChannelsStand first (bays_view I.Source O.Sink bays.old) arrived channels.old.items
+        → ChannelsStand first (bays_view I.Source O.Sink bays.new) arrived channels.new.items }
     ensures none { NoneHeld CLIENTS channels.new.items }
     ensures alone { OnlyClientsOut (bays_view I.Source O.Sink bays.old) (bays_view I.Source O.Sink bays.new) }
 {
@@ -196,9 +196,9 @@ fn flush_one<I: Source, O: Sink>(channels: &mut Vec<Channel>, cid: u8, bays: &mu
     requires many { vec_len channels.old ≡ CLIENTS }
     requires low { cid < CLIENTS }
     ensures many { vec_len channels.new ≡ CLIENTS }
-    ensures stands { (first : BaysView) (further : List ChannelArrival)
-        → ChannelsStand first (bays_view I.Source O.Sink bays.old) further channels.old.items
-        → ChannelsStand first (bays_view I.Source O.Sink bays.new) further channels.new.items }
+    ensures stands { (first : BaysView) (arrived : List ChannelArrival)
+        → ChannelsStand first (bays_view I.Source O.Sink bays.old) arrived channels.old.items
+        → ChannelsStand first (bays_view I.Source O.Sink bays.new) arrived channels.new.items }
     ensures none { NoneHeld cid channels.old.items → NoneHeld (cid + 1) channels.new.items }
     ensures alone { OnlyClientsOut (bays_view I.Source O.Sink bays.old) (bays_view I.Source O.Sink bays.new) }
 {

@@ -65,9 +65,9 @@ fn hand_on<I: Source, O: Sink>(
     outputs: &mut Outputs,
     bays: &mut Rack<I, O>,
 )
-    ensures read { (first : BaysView) (further : List Arrival)
-        → AllRead first (bays_view I.Source O.Sink bays.old) further reader.old outputs.old
-        → AllRead first (bays_view I.Source O.Sink bays.new) (further ++ news aligned frame.now) reader.new
+    ensures read { (first : BaysView) (arrived : List Arrival)
+        → AllRead first (bays_view I.Source O.Sink bays.old) arrived reader.old outputs.old
+        → AllRead first (bays_view I.Source O.Sink bays.new) (arrived ++ news aligned frame.now) reader.new
         outputs.new }
     ensures alone { OnlyClientsOut (bays_view I.Source O.Sink bays.old) (bays_view I.Source O.Sink bays.new) }
 {

@@ -54,9 +54,9 @@ const REPORT_BYTES: usize = CHANNEL_BYTES * CLIENTS + OTHER_BYTES;
 
 /// Writes the report on what arrived.
 pub(crate) fn write_report<K: Sink>(outputs: &Outputs, report: &mut K) -> Written
-    ensures told { (first now : BaysView) (further : List ChannelArrival) → OutputsStand first now further outputs.now
-        → length further ≤ 2 ^ 64 - 1
-        → SinkWrites result (sink_view K.Sink report.old) (report_text further) (sink_view K.Sink report.new) }
+    ensures told { (first now : BaysView) (arrived : List ChannelArrival) → OutputsStand first now arrived outputs.now
+        → length arrived ≤ 2 ^ 64 - 1
+        → SinkWrites result (sink_view K.Sink report.old) (report_text arrived) (sink_view K.Sink report.new) }
     ensures cause { result ≡ Written.Lost → HasFailed (K.faults report.old) (K.faults report.new) }
     ensures well { result ≢ Written.Lost → K.faults report.new ≡ K.faults report.old }
 {
@@ -68,8 +68,8 @@ pub(crate) fn write_report<K: Sink>(outputs: &Outputs, report: &mut K) -> Writte
 // Puts it into the empty text.
 fn put_report(text: &mut ArrayString<REPORT_BYTES>, outputs: &Outputs)
     requires empty { text.old.bytes ≡ [] }
-    ensures { (first now : BaysView) (further : List ChannelArrival) → OutputsStand first now further outputs.now
-        → length further ≤ 2 ^ 64 - 1 → text.new.bytes ≡ report_text further }
+    ensures { (first now : BaysView) (arrived : List ChannelArrival) → OutputsStand first now arrived outputs.now
+        → length arrived ≤ 2 ^ 64 - 1 → text.new.bytes ≡ report_text arrived }
 {
     put_channels(text, outputs);
     put_number(text, "other ", outputs.other());
@@ -79,9 +79,9 @@ fn put_report(text: &mut ArrayString<REPORT_BYTES>, outputs: &Outputs)
 // The lines of the channels with a client output.
 fn put_channels(text: &mut ArrayString<REPORT_BYTES>, outputs: &Outputs)
     requires room { array_string_len text.old + CHANNEL_BYTES * CLIENTS ≤ REPORT_BYTES }
-    ensures text { (first now : BaysView) (further : List ChannelArrival) → OutputsStand first now further outputs.now
-        → length further ≤ 2 ^ 64 - 1
-        → text.new.bytes ≡ text.old.bytes ++ channel_lines further CLIENTS }
+    ensures text { (first now : BaysView) (arrived : List ChannelArrival) → OutputsStand first now arrived outputs.now
+        → length arrived ≤ 2 ^ 64 - 1
+        → text.new.bytes ≡ text.old.bytes ++ channel_lines arrived CLIENTS }
     ensures most { array_string_len text.new ≤ array_string_len text.old + CHANNEL_BYTES * CLIENTS }
 {
     for cid in 0..CLIENTS as u8 {

@@ -30,7 +30,7 @@ impl Unbundling {
     /// The parts before the first turn. Takes all memory that they will ever need; answers `Memory` where there is
     /// none.
     pub(crate) fn new(alloc: Global) -> Result<Unbundling, Memory>
-        ensures due { IfOk result (λ parts. (first : BaysView) → TurnsGone first first 0 parts) }
+        ensures gone { IfOk result (λ parts. (first : BaysView) → TurnsGone first first 0 parts) }
         ensures ready { IfOk result IsReady }
     {
         let tap = Tap::new(alloc, 1, &first_slot())?;
@@ -50,7 +50,7 @@ impl Unbundling {
     pub(crate) fn turn<I: Source, O: Sink>(&mut self, room: &mut Vec<u8>, bays: &mut Rack<I, O>)
         requires ready { IsReady self.old }
         requires room { vec_len room.old ≡ GROUPS + 1 }
-        ensures due { (first : BaysView) (read : List ℕ) (t : ℕ)
+        ensures gone { (first : BaysView) (read : List ℕ) (t : ℕ)
             → Stands first (bays_view I.Source O.Sink bays.old) read t self.old
             → TurnGone first (bays_view I.Source O.Sink bays.new) read t self.new }
         ensures ready { IsReady self.new }

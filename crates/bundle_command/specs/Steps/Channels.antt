@@ -52,7 +52,7 @@ IsBadLine line.End = ⊥
 IsBadLine (line.Bad n) = Unit {0}
 IsBadLine line.Lost = ⊥
 
--- By how a channel stands: what came of its text beyond the packets that it gave, and the last answer of its lines.
+-- By how a channel stands: what came of its text beyond the packets that it offered, and the last answer of its lines.
 abbrev pub StandsSo : Standing → (offered beyond : List (List ℕ)) → Line → Type 0
 StandsSo Fresh offered beyond answer = (offered ≡ []) × (beyond ≡ []) × (answer ≡ line.Packet)
 StandsSo Going offered beyond answer = (beyond ≡ []) × (answer ≡ line.Packet)
@@ -62,7 +62,7 @@ StandsSo Bad offered beyond answer = ((beyond ≡ []) × IsBadLine answer)
 StandsSo Lost offered beyond answer = (beyond ≡ []) × (answer ≡ line.Lost)
 StandsSo More offered beyond answer = (packet : List ℕ) × (beyond ≡ packet ∷ []) × (answer ≡ line.Packet)
 
--- `first` and `now` are views of its client's place, between which these bytes were taken; it gave these packets.
+-- `first` and `now` are views of its client's place, between which these bytes were taken; it offered these packets.
 pub record ChannelStands (first now : InView) (read : List ℕ) (offered : List (List ℕ))
     (channel : Channel) : Type 0 where
   pub beyond : List (List ℕ)
@@ -148,7 +148,7 @@ pub record WeavingHas (clients : List ℕ) (first now : BaysView) (read : ℕ �
   pub weave : (inputs : ℕ → ClientInput) → MayShowAll weaving.channels.items read inputs
       → IsWeave (texts_of (length clients) inputs) at
   pub only : OnlyClients clients first now
-  pub given_is : weaving.emitted ≡ saturated (length emitted)
+  pub emitted_is : weaving.emitted ≡ saturated (length emitted)
   pub end_is : weaving.end ≡ saturated end
 
 -- no channel was settled

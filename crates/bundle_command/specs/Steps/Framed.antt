@@ -18,7 +18,7 @@ pub record OnlyInputs (first now : BaysView) : Type 0 where
 abbrev pub left_of : Framing → List ℕ
 left_of framing = drop framing.at framing.frame
 
--- Frames were made of the channels' stream, of which these bytes are gone.
+-- Frames were made of the channels' stream, of which these bytes are due.
 pub record FramesHave (clients : List ℕ) (first now : BaysView) (due : List ℕ) (framing : Framing) : Type 0 where
   pub emitted : List ℕ
   pub count : ℕ

@@ -19,10 +19,10 @@ pub record Keeps (old new : LineView) : Type 0 where
   pub lost : new.lost ≡ old.lost
 
 -- a frame was taken into the alignment, and the line is locked, or none was taken, and the alignment stays
-pub record TakesMember (read : Bool) (old new : LineView) : Type 0 where
-  pub aligned : read ≡ true → IsSome new.alignment
-  pub stays : read ≡ false → new.alignment ≡ old.alignment
-  pub count : frames_taken new ≡ frames_taken old + one_if read
+pub record TakesMember (taken : Bool) (old new : LineView) : Type 0 where
+  pub aligned : taken ≡ true → IsSome new.alignment
+  pub stays : taken ≡ false → new.alignment ≡ old.alignment
+  pub count : frames_taken new ≡ frames_taken old + one_if taken
 
 -- so many more lead-in frames were passed over
 abbrev pub PassesOver : LineView → ℕ → LineView → Type 0

@@ -18,7 +18,7 @@ use Rattle.line_side.specs.declared.ending.Ending.TheVariants.{Open, Seen, Died}
 use Rattle.line_side.specs.Reader.{ReaderView, HasRead, EndedAs}
 
 -- What a move of a reader comes to, whatever line it may be on and however far it has read. `available` are all bytes
--- of the line; of them n are read after the move, in which these came; u frames were used before it, and w were wanted.
+-- of the line; of them n are read after the move, `further` in it; u frames were used before it, and w were wanted.
 abbrev pub OnAnyLine : (old new : ReaderView) → (further : List ℕ)
     → ((available : List ℕ) → (n u w : ℕ) → Type 0) → Type 0
 OnAnyLine old new further Comes = (available read : List ℕ) (u w : ℕ)

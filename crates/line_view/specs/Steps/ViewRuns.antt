@@ -55,7 +55,7 @@ AnswerEnds Cut line further was now = (now.state ≡ Dead) × (further ≡ []) �
 AnswerEnds ReportFault line further was now = (further ≡ []) × (now ≡ was)
 AnswerEnds Memory line further was now = ⊥
 
--- how a view ends: the bytes that came after the last turn, one at most, and the answer
+-- how a view ends: the further bytes after the last turn, one at most, and the answer
 pub record AnswerRun (line : LineView) (was now : InView) (ended : Ended) : Type 0 where
   pub further : List ℕ
   pub gave : Gave was further now

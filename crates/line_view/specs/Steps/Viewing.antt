@@ -9,7 +9,7 @@ use Rattle.line_side.specs.MayBe.{MayBe}
 use Rattle.tributary_model.specs.Places.{Taken, msi_in}
 use Rattle.trib_sink.specs.Sink.{StandsAfter}
 use Rattle.device_model.specs.TurnFrames.{frames_in}
-use Rattle.line_view.specs.ViewText.{all_slots, msi_came, seen_at, told_at, views_from}
+use Rattle.line_view.specs.ViewText.{all_slots, msi_at_turn, seen_at, told_at, views_from}
 use Rattle.line_view.specs.Steps.Watching.{begun, own_of, showing_of}
 use Rattle.line_view.specs.declared.told.TurnSeen.{TurnSeen}
 use Rattle.line_view.specs.declared.watched.Watched.{Watched}
@@ -68,7 +68,7 @@ pub record TurnMoves (form : LineForm) (first now : InView) (read : List ℕ) (t
   pub seen_is : (available : List ℕ) → MayBe form.scrambled new.reader.ending (read ++ further) available
       → seen ≡ seen_at form available t
   pub msi_is : (available : List ℕ) → MayBe form.scrambled new.reader.ending (read ++ further) available
-      → msi ≡ msi_came form available t
+      → msi ≡ msi_at_turn form available t
   pub told : (available : List ℕ) → MayBe form.scrambled new.reader.ending (read ++ further) available
       → (i : ℕ) (one : Watched)
       → slice_get news i ≡ Some one

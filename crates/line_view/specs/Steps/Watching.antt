@@ -40,13 +40,13 @@ pub record IsSame (old new : Watched) : Type 0 where
 
 -- A frame of turn t + 1 came. Its sink took it, where the turn has not all of its frames; before its first turn the
 -- sink is as it was.
-pub record TookFrame (t : ℕ) (read : Taken) (old new : Watched) : Type 0 where
+pub record TookFrame (t : ℕ) (frame : Taken) (old new : Watched) : Type 0 where
   pub same : IsSame old new
   pub waits : begun old t ≡ false → new.sink ≡ old.sink
   pub count : begun old t ≡ true → old.sink.taken < slots_of old.sink.slots.kind → new.sink.taken ≡ old.sink.taken + 1
   pub stands : begun old t ≡ true → old.sink.taken < slots_of old.sink.slots.kind
       → (own : Tributary) (past : List (Option View)) (frames : List Taken)
-      → StandsAfter own past frames old.sink → StandsAfter own past (frames ++ read ∷ []) new.sink
+      → StandsAfter own past frames old.sink → StandsAfter own past (frames ++ frame ∷ []) new.sink
 
 -- Turn t + 1 ended, which has its multiframe or not. Its sink ended it too, and this is what the turn says; before its
 -- first turn the sink is as it was.

@@ -73,7 +73,7 @@ pub record PartWent (text written digits rest : List ℕ) : Type 0 where
   pub line : is_whole_line digits ≡ true
   pub is : text ≡ lines_text lines ++ digits
   pub part : List ℕ
-  pub gone : written ≡ lines_records lines ++ part
+  pub parts : written ≡ lines_records lines ++ part
   pub cut : part ++ rest ≡ record_of (packet_of digits)
 
 -- what went of a text by its records: of lines alone, all; else the lines in front, and a part of the record of the

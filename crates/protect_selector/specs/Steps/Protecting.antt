@@ -15,19 +15,19 @@ use Rattle.tributary_line.specs.TapTurn.{TapStands, IsBetweenTurns}
 use Rattle.tributary_line.specs.FeedTurn.{FeedStands}
 use Rattle.tributary_line.specs.Settling.{ended_by}
 use Rattle.protect_selector.specs.Selector.{HasChosen}
-use Rattle.protect_selector.specs.OfLines.{turns_before, given_before, switch_text, switch_text_at}
+use Rattle.protect_selector.specs.OfLines.{turns_before, due_before, switch_text, switch_text_at}
 use Rattle.protect_selector.specs.declared.protecting.Protecting.{Protecting}
 use Rattle.protect_selector.specs.Protecting.{Ends}
 
 -- After t turns of lines of these bytes: which choices were made, what was given on, and what was told.
 pub record AgreesAfter (own : Tributary) (n t : ℕ) (first now : Ends) (w p : List ℕ) (parts : Protecting) : Type 0 where
   pub chosen : HasChosen (length own.slots) n (turns_before own w p t) parts.selector
-  pub fed : FeedStands own first.output now.output (given_before own n w p t) parts.feed
+  pub fed : FeedStands own first.output now.output (due_before own n w p t) parts.feed
   pub told : SinkGot first.report (switch_text own n w p t) now.report
 
 -- In turn t + 1 the report failed at the line of a switch, of which it got a part.
 pub record AgreesLost (own : Tributary) (n t : ℕ) (first now : Ends) (w p : List ℕ) (parts : Protecting) : Type 0 where
-  pub fed : FeedStands own first.output now.output (given_before own n w p t) parts.feed
+  pub fed : FeedStands own first.output now.output (due_before own n w p t) parts.feed
   pub sent : ℕ
   pub part : sent < length (switch_text_at own n w p t)
   pub told : SinkGot first.report (switch_text own n w p t ++ take sent (switch_text_at own n w p t)) now.report
@@ -70,9 +70,9 @@ LeftBy written.Lost own n first now working protection t parts = StandsLost own 
 -- turn t + 1, with the bytes that were taken in it
 pub record TurnGone (result : Written) (own : Tributary) (n : ℕ) (first now : Ends) (working protection : List ℕ)
     (t : ℕ) (parts : Protecting) : Type 0 where
-  pub working_read : List ℕ
-  pub protection_read : List ℕ
-  pub left : LeftBy result own n first now (working ++ working_read) (protection ++ protection_read) t parts
+  pub working_further : List ℕ
+  pub protection_further : List ℕ
+  pub left : LeftBy result own n first now (working ++ working_further) (protection ++ protection_further) t parts
 
 -- What holds of parts of a tributary that stand after t turns with these ends: of how long they wait, of what the ends
 -- were first, and of the bytes that were taken of both lines.
@@ -93,11 +93,11 @@ has_dead ends = is_dead ends.working.state || is_dead ends.protection.state || i
 
 -- after the last turn: both lines were asked for a byte more, where their end was not seen
 pub record SettledAs (parts : Protecting) (was is : Ends) (ended : Ended) : Type 0 where
-  pub working_read : List ℕ
-  pub working_asked : ByteAsked (not (is_seen parts.working.line.reader.ending)) was.working is.working working_read
-  pub protection_read : List ℕ
+  pub working_further : List ℕ
+  pub working_asked : ByteAsked (not (is_seen parts.working.line.reader.ending)) was.working is.working working_further
+  pub protection_further : List ℕ
   pub protection_asked : ByteAsked (not (is_seen parts.protection.line.reader.ending)) was.protection is.protection
-      protection_read
+      protection_further
   pub output : is.output ≡ was.output
   pub report : is.report ≡ was.report
-  pub answer : ended ≡ ended_by (has_dead is) (has_come working_read || has_come protection_read)
+  pub answer : ended ≡ ended_by (has_dead is) (has_come working_further || has_come protection_further)

@@ -18,6 +18,6 @@ cause_by n up side own beside =
     else if is_protection side && nat_lt 0 n && nat_le n up then Some Restored else None
 
 -- what is to be skipped in a turn, by counts modulo m
-abbrev pub to_skip_by : (m arrived : ℕ) → Option SwitchCause → (skip emitted : ℕ) → ℕ
-to_skip_by m arrived None skip emitted = skip
-to_skip_by m arrived (Some cause) skip emitted = (emitted + (m - arrived)) % m
+abbrev pub to_skip_by : (m emitted : ℕ) → Option SwitchCause → (skip due : ℕ) → ℕ
+to_skip_by m emitted None skip due = skip
+to_skip_by m emitted (Some cause) skip due = (due + (m - emitted)) % m

@@ -25,20 +25,20 @@ pub record LinesHeld (first now : OutView) (packets : List (List ℕ)) (text : L
   pub quiet : packets ≡ [] → now ≡ first
 
 -- what arrived on the channel of this CID is held for its place, and counted
-pub record ChannelStands (first now : OutView) (cid : ℕ) (further : List ChannelArrival)
+pub record ChannelStands (first now : OutView) (cid : ℕ) (arrived : List ChannelArrival)
     (channel : ChannelView) : Type 0 where
-  pub lines : LinesHeld first now (packets_on cid further) channel.text
-  pub packets : channel.packets ≡ saturated (packet_count cid further)
-  pub losses : channel.losses ≡ saturated (loss_count cid further)
+  pub lines : LinesHeld first now (packets_on cid arrived) channel.text
+  pub packets : channel.packets ≡ saturated (packet_count cid arrived)
+  pub losses : channel.losses ≡ saturated (loss_count cid arrived)
 
 -- the channel of a CID
 abbrev pub channel_at : List ChannelView → (cid : ℕ) → ChannelView
 channel_at channels cid = get_or channels cid no_channel
 
 -- what arrived on them is held for their client outputs, and counted
-pub record ChannelsStand (first now : BaysView) (further : List ChannelArrival)
+pub record ChannelsStand (first now : BaysView) (arrived : List ChannelArrival)
     (channels : List ChannelView) : Type 0 where
-  pub each : (cid : ℕ) → cid < CLIENTS → ChannelStands (client_out_at first cid) (client_out_at now cid) cid further
+  pub each : (cid : ℕ) → cid < CLIENTS → ChannelStands (client_out_at first cid) (client_out_at now cid) cid arrived
       (channel_at channels cid)
 
 -- the first channels, so many, hold no line
@@ -46,9 +46,9 @@ pub record NoneHeld (count : ℕ) (channels : List ChannelView) : Type 0 where
   pub each : (cid : ℕ) → cid < count → (channel_at channels cid).text ≡ []
 
 -- what arrived is held and counted
-pub record OutputsStand (first now : BaysView) (further : List ChannelArrival) (outputs : OutputsView) : Type 0 where
-  pub channels : ChannelsStand first now further outputs.channels
-  pub other : outputs.other ≡ saturated (other_count further)
+pub record OutputsStand (first now : BaysView) (arrived : List ChannelArrival) (outputs : OutputsView) : Type 0 where
+  pub channels : ChannelsStand first now arrived outputs.channels
+  pub other : outputs.other ≡ saturated (other_count arrived)
 
 -- all places but the client outputs are as they were
 pub record OnlyClientsOut (first now : BaysView) : Type 0 where
@@ -69,10 +69,10 @@ pub record RunRead (first now : BaysView) (earlier : List ChannelArrival) (read 
   pub held : OutputsStand first now (earlier ++ channel_arrivals read) outputs
 
 -- all frames that came were read
-pub record AllRead (first now : BaysView) (further : List Arrival) (reader : ReaderState)
+pub record AllRead (first now : BaysView) (arrived : List Arrival) (reader : ReaderState)
     (outputs : OutputsView) : Type 0 where
-  pub has_read : HasRead (last_run (runs_of further)) reader
-  pub held : OutputsStand first now (flat_map channel_arrivals (runs_of further)) outputs
+  pub has_read : HasRead (last_run (runs_of arrived)) reader
+  pub held : OutputsStand first now (flat_map channel_arrivals (runs_of arrived)) outputs
 
 -- these bytes were taken by the aligner, and what they have was read
 pub record HoldsAfter (first now : BaysView) (read : List ℕ) (aligner : AlignerState) (reader : ReaderState)

@@ -21,7 +21,7 @@ pub record Stands (first now : BaysView) (read : List ℕ) (t : ℕ) (parts : Un
   pub few : (available : List ℕ) → MayBe false parts.tap.line.reader.ending read available
       → length (emitted_before available t) ≤ (GROUPS + 1) * t
 
--- turn t + 1, with the bytes that were taken in it
+-- turn t + 1, with the further bytes that were read in it
 pub record TurnGone (first now : BaysView) (read : List ℕ) (t : ℕ) (parts : Unbundling) : Type 0 where
   pub further : List ℕ
   pub stands : Stands first now (read ++ further) (suc t) parts

@@ -10,6 +10,6 @@ invariant-loop g l = record {
   ready : CanTurn (bays_view g.I.Source g.O.Sink l.bays) l.parts;
   source : l.parts.feed.source.slots ≡ record { kind = Otu2; list = 1 ∷ [] };
   room : vec_len l.room ≡ 15233;
-  due : (clients : List ℕ) (first : BaysView) → TurnsGone clients first (bays_view g.I.Source g.O.Sink l.fn.bays) 0 l.fn.parts
+  gone : (clients : List ℕ) (first : BaysView) → TurnsGone clients first (bays_view g.I.Source g.O.Sink l.fn.bays) 0 l.fn.parts
       → TurnsGone clients first (bays_view g.I.Source g.O.Sink l.bays) l.counter l.parts;
 }

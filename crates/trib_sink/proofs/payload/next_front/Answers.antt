@@ -1,6 +1,6 @@
 use Rattle.std.proofs.Common.{◌+◌, subst}
 use Rattle.std.proofs.lemmas.List.{length-take-le}
-use Rattle.maintenance_signals.specs.Given.{HasEmitted}
+use Rattle.maintenance_signals.specs.Emitted.{HasEmitted}
 use Rattle.trib_sink.proofs.payload.next_front.Goals as goal
 
 pub returns-clause-emitted : goal.returns-clause-emitted

@@ -11,6 +11,6 @@ abbrev pub invariant-loop : goal.invariant-loop
 invariant-loop g l = record {
   ready : IsReady l.parts;
   room : vec_len l.room ≡ GROUPS + 1;
-  due : (first : BaysView) → TurnsGone first (bays_view g.I.Source g.O.Sink l.fn.bays) 0 l.fn.parts → TurnsGone first (bays_view g.I.Source g.O.Sink l.bays) l.counter l.parts;
+  gone : (first : BaysView) → TurnsGone first (bays_view g.I.Source g.O.Sink l.fn.bays) 0 l.fn.parts → TurnsGone first (bays_view g.I.Source g.O.Sink l.bays) l.counter l.parts;
   alone : OnlyUnbundled (bays_view g.I.Source g.O.Sink l.fn.bays) (bays_view g.I.Source g.O.Sink l.bays);
 }

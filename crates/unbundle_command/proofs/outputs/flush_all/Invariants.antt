@@ -9,8 +9,8 @@ use Rattle.unbundle_command.proofs.outputs.flush_all.Given as goal
 abbrev pub invariant-loop-cid : goal.invariant-loop-cid
 invariant-loop-cid g l = record {
   many : vec_len l.channels ≡ 16;
-  stands : (first : BaysView) (further : List ChannelArrival) → ChannelsStand first (bays_view g.I.Source g.O.Sink l.fn.bays) further l.fn.channels.items
-      → ChannelsStand first (bays_view g.I.Source g.O.Sink l.bays) further l.channels.items;
+  stands : (first : BaysView) (arrived : List ChannelArrival) → ChannelsStand first (bays_view g.I.Source g.O.Sink l.fn.bays) arrived l.fn.channels.items
+      → ChannelsStand first (bays_view g.I.Source g.O.Sink l.bays) arrived l.channels.items;
   none : NoneHeld l.cid l.channels.items;
   alone : OnlyClientsOut (bays_view g.I.Source g.O.Sink l.fn.bays) (bays_view g.I.Source g.O.Sink l.bays);
 }

@@ -7,12 +7,12 @@ use Rattle.unbundle_command.proofs.Holding.{one_flushed, none_held, clients_one}
 use Rattle.unbundle_command.proofs.outputs.flush_one.Goals as goal
 
 pub returns-clause-stands : goal.returns-clause-stands
-returns-clause-stands g c = λ first further h.
+returns-clause-stands g c = λ first arrived h.
     let bays = c.args.bays.now in
     let last = with_client_out bays c.args.cid c.flush.new.place in
     let value = c.client_out_mut.ensures.value in
     let items = c.args.channels.now.items in
-    one_flushed first (bays_view g.I.Source g.O.Sink bays) (bays_view g.I.Source g.O.Sink last) further c.args.cid items c.index_mut.result.now c.flush.new.self
+    one_flushed first (bays_view g.I.Source g.O.Sink bays) (bays_view g.I.Source g.O.Sink last) arrived c.args.cid items c.index_mut.result.now c.flush.new.self
     (out_view g.O.Sink c.client_out_mut.result.now) (out_view g.O.Sink c.flush.new.place) (slice_get_read items 16 c.args.cid c.index_mut.result.now (grind arith) c.requires.low c.index_mut.ensures.value)
     (only_client_out g.I.Source g.O.Sink bays c.args.cid c.flush.new.place) (client_out_seen g.I.Source g.O.Sink bays c.args.cid c.client_out_mut.result.now value)
     (client_out_set g.I.Source g.O.Sink bays c.args.cid c.client_out_mut.result.now c.flush.new.place value) c.flush.ensures.lines c.flush.ensures.packets c.flush.ensures.losses h

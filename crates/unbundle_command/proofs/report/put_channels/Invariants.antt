@@ -10,6 +10,6 @@ use Rattle.unbundle_command.proofs.report.put_channels.Given as goal
 -- the lines so far
 abbrev pub invariant-loop-cid : goal.invariant-loop-cid
 invariant-loop-cid l = record {
-  text : (first now : BaysView) (further : List ChannelArrival) → OutputsStand first now further l.outputs → length further ≤ 2 ^ 64 - 1 → l.text.bytes ≡ l.fn.text.bytes ++ channel_lines further l.cid;
+  text : (first now : BaysView) (arrived : List ChannelArrival) → OutputsStand first now arrived l.outputs → length arrived ≤ 2 ^ 64 - 1 → l.text.bytes ≡ l.fn.text.bytes ++ channel_lines arrived l.cid;
   most : array_string_len l.text ≤ array_string_len l.fn.text + CHANNEL_BYTES * l.cid;
 }

@@ -24,9 +24,9 @@ returns-then-eq-clause-ran g c = λ first turns many due.
     ended_so first (bays_view g.I.Source g.O.Sink bays) (bays_view g.I.Source g.O.Sink mid) is turns c.args.parts.now (in_view g.I.Source c.line_in_mut.result.now) (in_view g.I.Source c.ask_more-more.new.place)
     c.ask_more-more.result c.flush.new.self was_told is_told ReportFault c.requires.ready many (only_line_in g.I.Source g.O.Sink bays 0 c.ask_more-more.new.place)
     (line_in_seen g.I.Source g.O.Sink bays 0 c.line_in_mut.result.now value) (line_in_set g.I.Source g.O.Sink bays 0 c.line_in_mut.result.now c.ask_more-more.new.place value) c.flush.ensures.alone c.ask_more-more.ensures
-    (λ further held. c.flush.ensures.stands first further held) c.flush.ensures.none
-    (λ further held few. subst (λ r. SinkWrites r was_told (report_text further) is_told) lost (c.write_report.ensures.told first is further held few))
-    (λ further available held a b some. ends_lost _ _ some) due
+    (λ arrived held. c.flush.ensures.stands first arrived held) c.flush.ensures.none
+    (λ arrived held few. subst (λ r. SinkWrites r was_told (report_text arrived) is_told) lost (c.write_report.ensures.told first is arrived held few))
+    (λ arrived available held a b some. ends_lost _ _ some) due
 
 pub returns-clause-ran : goal.returns-clause-ran
 returns-clause-ran g c = λ first turns many due.
@@ -43,9 +43,9 @@ returns-clause-ran g c = λ first turns many due.
     (ended_so first (bays_view g.I.Source g.O.Sink bays) (bays_view g.I.Source g.O.Sink mid) is turns c.args.parts.now (in_view g.I.Source c.line_in_mut.result.now) (in_view g.I.Source c.ask_more-more.new.place)
     more c.flush.new.self was_told is_told (ended_by dead more) c.requires.ready many (only_line_in g.I.Source g.O.Sink bays 0 c.ask_more-more.new.place)
     (line_in_seen g.I.Source g.O.Sink bays 0 c.line_in_mut.result.now value) (line_in_set g.I.Source g.O.Sink bays 0 c.line_in_mut.result.now c.ask_more-more.new.place value) c.flush.ensures.alone c.ask_more-more.ensures
-    (λ further held. c.flush.ensures.stands first further held) c.flush.ensures.none
-    (λ further held few. subst (λ r. SinkWrites r was_told (report_text further) is_told) (whole ∙ sym (whole_by dead more)) (c.write_report.ensures.told first is further held few))
-    (λ further available held a b some. ends_whole first is further c.flush.new.self turns available dead more c.has_dead.ensures.some c.has_dead.ensures.none held a b) due)
+    (λ arrived held. c.flush.ensures.stands first arrived held) c.flush.ensures.none
+    (λ arrived held few. subst (λ r. SinkWrites r was_told (report_text arrived) is_told) (whole ∙ sym (whole_by dead more)) (c.write_report.ensures.told first is arrived held few))
+    (λ arrived available held a b some. ends_whole first is arrived c.flush.new.self turns available dead more c.has_dead.ensures.some c.has_dead.ensures.none held a b) due)
 
 pub returns-then-eq-clause-alone : goal.returns-then-eq-clause-alone
 returns-then-eq-clause-alone g c = only_all _ _ _ (only_line_in g.I.Source g.O.Sink c.args.bays.now 0 c.ask_more-more.new.place) c.flush.ensures.alone

@@ -13,8 +13,8 @@ use Rattle.bundle_command.proofs.bundling.Bundling.turn.Goals as goal
 pub fill_front-requires-clause-ready : goal.fill_front-requires-clause-ready
 fill_front-requires-clause-ready g c = ready_frames (bays_view g.I.Source g.O.Sink c.args.bays.now) c.args.self.now c.requires.ready
 
-pub returns-clause-due : goal.returns-clause-due
-returns-clause-due g c = λ clients first t h.
+pub returns-clause-gone : goal.returns-clause-gone
+returns-clause-gone g c = λ clients first t h.
     let was = bays_view g.I.Source g.O.Sink c.args.bays.now in
     let mid = bays_view g.I.Source g.O.Sink c.fill_front.new.bays in
     let is = bays_view g.I.Source g.O.Sink (with_line_out c.fill_front.new.bays 0 c.turn.new.place) in

@@ -20,4 +20,4 @@ fill_payload-requires g c =
 pub returns-clause-stands : goal.returns-clause-stands
 returns-clause-stands g c = λ clients first due h.
     frame_made clients first (bays_view g.I.Source g.O.Sink c.args.bays.now) (bays_view g.I.Source g.O.Sink c.fill_payload.new.bays) due (payload_of c.fill_payload.new.frame) c.args.self.now _
-    c.requires.due c.args.self.now.size refl refl c.fill_payload.ensures.size (λ emitted w. c.fill_payload.ensures.stands clients first emitted w) (λ count emitted m. c.write.ensures.made count emitted m c.fill_payload.ensures.size) h
+    c.requires.gone c.args.self.now.size refl refl c.fill_payload.ensures.size (λ emitted w. c.fill_payload.ensures.stands clients first emitted w) (λ count emitted m. c.write.ensures.made count emitted m c.fill_payload.ensures.size) h

@@ -1,5 +1,5 @@
 use Rattle.std.proofs.Common.{◌≡◌, ◌+◌, ◌∙◌, suc, false, [], take, sym, ap, subst}
-use Rattle.maintenance_signals.specs.Given.{HasEmitted}
+use Rattle.maintenance_signals.specs.Emitted.{HasEmitted}
 use Rattle.maintenance_signals.specs.Stream.{signal_bytes}
 use Rattle.odu_client.specs.ClientInput.{emitted_before}
 use Rattle.device_model.specs.Through.{emits_by}

@@ -14,8 +14,8 @@ loop-self-preserved g c =
     let short : length c.go_on.new.self.line.items ≤ 131055 = omega arith in
     let lives : c.read_block.result ≡ true = search rules in
     record {
-      goes = goes_block (e.all no_lf).1 c.if-self.false short (c.read_block.ensures.further lives) (goes_all no_lf e i.goes);
-      short = (let l = ap length (c.read_block.ensures.further lives).line in omega (arith, short, l));
+      goes = goes_block (e.all no_lf).1 c.if-self.false short (c.read_block.ensures.block lives) (goes_all no_lf e i.goes);
+      short = (let l = ap length (c.read_block.ensures.block lives).line in omega (arith, short, l));
       quiet = λ ended. absurd (let was = e.ended ∙ (i.quiet ended).1 in let is = c.if-self.false in cc);
     }
 
@@ -23,7 +23,7 @@ pub loop-self-smaller : goal.loop-self-smaller
 loop-self-smaller g c =
     let short : length c.go_on.new.self.line.items ≤ 131055 = omega arith in
     let lives : c.read_block.result ≡ true = search rules in
-    left_less c.if-go_on.false c.go_on.ensures.goes c.if-self.false short (c.read_block.ensures.further lives)
+    left_less c.if-go_on.false c.go_on.ensures.goes c.if-self.false short (c.read_block.ensures.block lives)
 
 pub returns-then-go_on-clause-cuts : goal.returns-then-go_on-clause-cuts
 returns-then-go_on-clause-cuts g c = λ _.

@@ -13,7 +13,7 @@ returns c =
       up = omega arith;
       side = rw start refl;
       to_skip = rw start refl;
-      emitted = rw start (sym none);
+      due = rw start (sym none);
       working = sym none;
       protection = sym none;
     }

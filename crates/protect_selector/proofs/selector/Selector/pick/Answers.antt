@@ -9,10 +9,10 @@ abbrev now_of : goal.After-self-5-1 → BothTurn
 now_of c = record { working = record { state = c.args.working; bytes = c.args.working_len }; protection = record { state = c.args.protection; bytes = c.args.protection_len } }
 
 abbrev old_of : goal.After-self-5-1 → SelectorView
-old_of c = record { m = c.self.inside.slots; n = c.self.inside.wait; side = c.self.inside.side; up = c.self.inside.up; skip = c.self.inside.skip; emitted = c.self.inside.emitted; working = c.self.inside.working; protection = c.self.inside.protection }
+old_of c = record { m = c.self.inside.slots; n = c.self.inside.wait; side = c.self.inside.side; up = c.self.inside.up; skip = c.self.inside.skip; due = c.self.inside.due; working = c.self.inside.working; protection = c.self.inside.protection }
 
 abbrev new_of : goal.After-self-5-1 → SelectorView
-new_of c = record { m = c.self.inside.slots; n = c.self.inside.wait; side = c.side_by-side.result; up = c.turns_up-self-inside.result; skip = c.to_skip_in-to_skip.result - c.min-skip.result; emitted = c.added-self-inside.result; working = c.added-self-inside-2.result; protection = c.added-self-inside-3.result }
+new_of c = record { m = c.self.inside.slots; n = c.self.inside.wait; side = c.side_by-side.result; up = c.turns_up-self-inside.result; skip = c.to_skip_in-to_skip.result - c.min-skip.result; due = c.added-self-inside.result; working = c.added-self-inside-2.result; protection = c.added-self-inside-3.result }
 
 abbrev choice_of : goal.After-self-5-1 → Choice
 choice_of c = record { side = c.side_by-side.result; skip = c.min-skip.result; cause = c.cause_of-cause.result }
@@ -26,10 +26,10 @@ picks c = record {
   cause = c.cause_of-cause.ensures;
   side = c.side_by-side.ensures;
   side_new = refl;
-  to_skip_is = rw (sym c.of_side-arrived.ensures) c.to_skip_in-to_skip.ensures;
+  to_skip_is = rw (sym c.of_side-emitted.ensures) c.to_skip_in-to_skip.ensures;
   skip = rw (sym c.bytes_of-bytes.ensures) c.min-skip.ensures;
   skip_new = refl;
-  emitted = rw (sym c.bytes_of-bytes.ensures) c.added-self-inside.ensures.value;
+  due = rw (sym c.bytes_of-bytes.ensures) c.added-self-inside.ensures.value;
   working = c.added-self-inside-2.ensures.value;
   protection = c.added-self-inside-3.ensures.value;
 }

@@ -1,7 +1,7 @@
 use Rattle.std.proofs.Common.{◌+◌, ◌*◌, subst, sym, ap, ◌∙◌}
 use Rattle.otn_base.specs.declared.limits.TheConstants.{NOMINAL}
 use Rattle.maintenance_signals.specs.declared.signal.Signal.TheVariants.{Ais}
-use Rattle.maintenance_signals.specs.Given.{HasEmitted}
+use Rattle.maintenance_signals.specs.Emitted.{HasEmitted}
 use Rattle.trib_sink.specs.Extraction.{Extraction}
 use Rattle.trib_sink.specs.Following.{Following}
 use Rattle.trib_sink.proofs.follower.Follower.give_ais.Goals as goal

@@ -1,6 +1,6 @@
 use Rattle.std.proofs.Common.{◌+◌, ◌*◌, ap, subst}
 use Rattle.otn_base.specs.declared.limits.TheConstants.{NOMINAL}
-use Rattle.maintenance_signals.specs.Given.{HasEmitted}
+use Rattle.maintenance_signals.specs.Emitted.{HasEmitted}
 use Rattle.trib_sink.specs.Extraction.{Extraction}
 use Rattle.trib_sink.proofs.payload.Payload.give_signal.Goals as goal
 

@@ -12,7 +12,7 @@ use Rattle.trib_sink.proofs.sink.TribSink.pass_turn.Goals as goal
 pub returns-clause-stands : goal.returns-clause-stands
 returns-clause-stands c = λ own past frames h.
     let i = c.self.inside in
-    let s : Sink = record { slots = i.slots; port = i.port; following = i.follower; watches = i.watches; taken = i.taken; message = i.message; msi = i.arrived.items } in
+    let s : Sink = record { slots = i.slots; port = i.port; following = i.follower; watches = i.watches; taken = i.taken; message = i.message; msi = i.msi.items } in
     let now : StandsAfter own past frames s = subst (λ (x : Sink). StandsAfter own past frames x) (sym c.self.view_is) h in
     let all : IsTrue c.args.whole → i.taken ≡ slots_of i.slots.kind = subst (λ (x : Sink). IsTrue c.args.whole → x.taken ≡ slots_of x.slots.kind) (sym c.self.view_is) c.requires.whole in
     let e = c.hear_turn-heard.ensures in
@@ -26,7 +26,7 @@ returns-clause-stands c = λ own past frames h.
 pub returns-clause-bytes : goal.returns-clause-bytes
 returns-clause-bytes c = λ own past frames h.
     let i = c.self.inside in
-    let s : Sink = record { slots = i.slots; port = i.port; following = i.follower; watches = i.watches; taken = i.taken; message = i.message; msi = i.arrived.items } in
+    let s : Sink = record { slots = i.slots; port = i.port; following = i.follower; watches = i.watches; taken = i.taken; message = i.message; msi = i.msi.items } in
     let now : StandsAfter own past frames s = subst (λ (x : Sink). StandsAfter own past frames x) (sym c.self.view_is) h in
     let all : IsTrue c.args.whole → i.taken ≡ slots_of i.slots.kind = subst (λ (x : Sink). IsTrue c.args.whole → x.taken ≡ slots_of x.slots.kind) (sym c.self.view_is) c.requires.whole in
     let e = c.hear_turn-heard.ensures in

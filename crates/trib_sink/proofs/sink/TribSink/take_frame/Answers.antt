@@ -26,17 +26,17 @@ returns-clause-taken g c = ap (λ (s : Sink). s.taken + 1) c.self.view_is
 pub invariant_of-self : goal.invariant_of-self
 invariant_of-self g c =
     let i = c.self.inside in
-    let s : Sink = record { slots = i.slots; port = i.port; following = i.follower; watches = i.watches; taken = i.taken; message = i.message; msi = i.arrived.items } in
+    let s : Sink = record { slots = i.slots; port = i.port; following = i.follower; watches = i.watches; taken = i.taken; message = i.message; msi = i.msi.items } in
     let number : c.args.n ≡ i.taken = c.requires.taken ∙ sym (ap (λ (s : Sink). s.taken) c.self.view_is) in
     let low = subst (λ (x : Sink). c.args.n < slots_of x.slots.kind) (sym c.self.view_is) c.requires.number in
     rw c.take_frame.ensures
-    (is_next s (g.F.TakeFrame.bytes c.args.frame.now) c.message_so_far-self-inside.result c.args.expected c.args.n c.note_msi.new.arrived.items number low c.note_msi.ensures.few c.note_msi.ensures.slots c.self.invariant)
+    (is_next s (g.F.TakeFrame.bytes c.args.frame.now) c.message_so_far-self-inside.result c.args.expected c.args.n c.note_msi.new.msi.items number low c.note_msi.ensures.few c.note_msi.ensures.slots c.self.invariant)
 
 pub returns-clause-stands : goal.returns-clause-stands
 returns-clause-stands g c = λ own past frames h.
     let i = c.self.inside in
-    let s : Sink = record { slots = i.slots; port = i.port; following = i.follower; watches = i.watches; taken = i.taken; message = i.message; msi = i.arrived.items } in
+    let s : Sink = record { slots = i.slots; port = i.port; following = i.follower; watches = i.watches; taken = i.taken; message = i.message; msi = i.msi.items } in
     let number : c.args.n ≡ i.taken = c.requires.taken ∙ sym (ap (λ (s : Sink). s.taken) c.self.view_is) in
     rw c.take_frame.ensures
-    (stands_next own past frames s (g.F.TakeFrame.bytes c.args.frame.now) c.message_so_far-self-inside.result c.args.expected c.args.n c.note_msi.new.arrived.items number c.self.invariant.asked c.message_so_far-self-inside.ensures c.note_msi.ensures.bytes
+    (stands_next own past frames s (g.F.TakeFrame.bytes c.args.frame.now) c.message_so_far-self-inside.result c.args.expected c.args.n c.note_msi.new.msi.items number c.self.invariant.asked c.message_so_far-self-inside.ensures c.note_msi.ensures.bytes
     (subst (λ (x : Sink). StandsAfter own past frames x) (sym c.self.view_is) h))

@@ -8,8 +8,8 @@ use Rattle.unbundle_command.specs.Steps.Receiving.{HoldsAfter}
 use Rattle.unbundle_command.proofs.Turns.{turn_gone, only_all, span}
 use Rattle.unbundle_command.proofs.unbundling.Unbundling.turn.Goals as goal
 
-pub returns-clause-due : goal.returns-clause-due
-returns-clause-due g c = λ first read t stood.
+pub returns-clause-gone : goal.returns-clause-gone
+returns-clause-gone g c = λ first read t stood.
     let bays = c.args.bays.now in
     let mid = with_line_in bays 0 c.turn-emitted.new.place in
     let value = c.line_in_mut.ensures.value in

@@ -8,7 +8,7 @@ pub record StreamPlace : Type 0 where
   pub signal : Signal
   pub place : ℕ
 
--- So many bytes of this signal's stream were given: it stands at the next one. The stream comes again after 256 frames.
+-- So many bytes of this signal's stream were emitted: it stands at the next one. It comes again after 256 frames.
 pub record HasEmitted (signal : Signal) (emitted : ℕ) (stands : StreamPlace) : Type 0 where
   pub signal_is : stands.signal ≡ signal
   pub place_is : stands.place ≡ emitted % PERIOD
