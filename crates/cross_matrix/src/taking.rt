@@ -80,7 +80,7 @@ impl TakingPart {
         }
     }
 
-    /// Ends a turn of the connection's line: what its sink emits is incoming, in a buffer that the sink gives in exchange.
+    /// Ends a turn of the connection's line: what its sink emits is incoming, in a buffer that it gives in exchange.
     pub(crate) fn end_frames(&mut self, whole: bool, incoming: &mut Burst)
         requires line { OnSink self.old (λ sink. IsTrue whole → sink.taken ≡ slots_of sink.slots.kind) }
         requires room { OnSink self.old (λ sink. incoming.old.room ≡ length sink.slots.list * (GROUPS + 1)) }

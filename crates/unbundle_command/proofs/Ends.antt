@@ -88,27 +88,27 @@ pub ended_so : (first was mid is : BaysView) (turns : ℕ) (parts : Unbundling) 
     → ((arrived : List ChannelArrival) → OutputsStand first is arrived outputs → length arrived ≤ 2 ^ 64 - 1 → SinkWrites (written_by ended) report (report_text arrived) report')
     → ((arrived : List ChannelArrival) (available : List ℕ) → OutputsStand first is arrived outputs → (answer ≡ true → HasMore turns available) → (answer ≡ false → HasMore turns available → ⊥) → ended ≢ ReportFault
     → EndsAs ended (IsCut arrived is) (HasMore turns available)) → TurnsGone first was turns parts → UnbundleRan turns first is report report' ended
-ended_so first was mid is turns parts x x' answer outputs report report' ended ready many only a b clients asked flushed none wrote ends due =
+ended_so first was mid is turns parts x x' answer outputs report report' ended ready many only a b clients asked flushed none wrote ends gone =
     let line = parts.tap.line in
     let asks = not (is_seen line.reader.ending) in
     let now = line_same mid is x' clients b in
     let asked' : ByteAsked asks (line_in_at was 0) (line_in_at is 0) asked.further =
     subst (λ v. ByteAsked asks v (line_in_at is 0) asked.further) (sym a) (subst (λ v. ByteAsked asks x v asked.further) (sym now) asked.asked) in
-    let on = due.stands.tap.line in
+    let on = gone.stands.tap.line in
     record {
-      read = due.read ++ asked.further;
+      read = gone.read ++ asked.further;
       more = has_come asked.further;
-      line = line_left plain_otu2 (line_in_at first 0) (line_in_at was 0) (line_in_at is 0) due.read asked.further turns line on asked';
+      line = line_left plain_otu2 (line_in_at first 0) (line_in_at was 0) (line_in_at is 0) gone.read asked.further turns line on asked';
       left = λ available may.
-          let may' = may_at_end plain_otu2 (line_in_at first 0) (line_in_at was 0) (line_in_at is 0) due.read asked.further available available turns line on asked' may refl in
-          let end = end_of_line plain_otu2 (line_in_at first 0) (line_in_at was 0) (line_in_at is 0) due.read asked.further available available turns line on ready.between.pieces asked' may refl in
+          let may' = may_at_end plain_otu2 (line_in_at first 0) (line_in_at was 0) (line_in_at is 0) gone.read asked.further available available turns line on asked' may refl in
+          let end = end_of_line plain_otu2 (line_in_at first 0) (line_in_at was 0) (line_in_at is 0) gone.read asked.further available available turns line on ready.between.pieces asked' may refl in
           let arrived = arrived_before available turns in
-          let held = flushed arrived (outputs_on first was mid arrived parts.outputs only.client_out (due.stands.holds available may').held) in
+          let held = flushed arrived (outputs_on first was mid arrived parts.outputs only.client_out (gone.stands.holds available may').held) in
           let more = λ (e : answer ≡ true). end.more (sym asked.tells ∙ e) in
           let all = λ (e : answer ≡ false) (h : HasMore turns available). (let none = end.none (sym asked.tells ∙ e) in let f : ⊥ = omega arith in f) in
           record {
             outputs = outputs_sent first is arrived outputs none held;
-            report = wrote arrived held (few_arrive available turns many (due.stands.few available may'));
+            report = wrote arrived held (few_arrive available turns many (gone.stands.few available may'));
             took = end.took;
             cut = λ some. (ends arrived available held more all some).cut;
             unfinished = λ some. (ends arrived available held more all some).unfinished;

@@ -120,4 +120,4 @@ turn_gone first was mid is read t x x' old tap aligner reader outputs emitted on
 
 -- one turn more
 pub one_more : (first was is : BaysView) (t : ℕ) (old new : Unbundling) → ((read : List ℕ) → Stands first was read t old → TurnGone first is read t new) → TurnsGone first was t old → TurnsGone first is (suc t) new
-one_more first was is t old new goes due = let next = goes due.read due.stands in record { read = due.read ++ next.further; stands = next.stands }
+one_more first was is t old new goes gone = let next = goes gone.read gone.stands in record { read = gone.read ++ next.further; stands = next.stands }
