@@ -101,7 +101,7 @@ pub given_here : (n c : ℕ) (packet : List ℕ) (at : Woven) (answer : Standing
 given_here n c packet at answer =
     let offered = packets_given c at.frames in
     on_answer n c packet at answer (λ fs. packets_given c fs ≡ offered ++ news answer packet)
-    (λ e. offered-push c at.frames (PacketFrame c packet) ∙ ap (λ ps. offered ++ ps) (packet_here c packet) ∙ ap (λ a. offered ++ news a packet) (sym e))
+    (λ e. given-push c at.frames (PacketFrame c packet) ∙ ap (λ ps. offered ++ ps) (packet_here c packet) ∙ ap (λ a. offered ++ news a packet) (sym e))
     (λ other.
     let none : offered ≡ offered ++ news answer packet = sym (ap (λ ps. offered ++ ps) (no_news answer packet other) ∙ append-nil offered) in
     (none, push_none c at.frames IdleFrame refl ∙ none, push_none c at.frames (LossFrame c) refl ∙ none))

@@ -102,8 +102,8 @@ pub may_show : (first last : InView) (read : List ℕ) (offered : List (List ℕ
     → MayBeInput first last read (more_by last.state (lines_view channel.lines).ended) input → MayShow (lines_view channel.lines) read input
 may_show first last read offered channel input h may = record {
   died = has_died first.state last.state;
-  text = cond (has_died first.state last.state) (text_of_dead may.offered) may.offered;
-  may = text_among first last read may.offered may.may.rest (offered ++ h.beyond) (lines_view channel.lines) h.text may.may.parts may.may.over;
+  text = cond (has_died first.state last.state) (text_of_dead may.available) may.available;
+  may = text_among first last read may.available may.may.rest (offered ++ h.beyond) (lines_view channel.lines) h.text may.may.parts may.may.over;
   die = dies first last read (offered ++ h.beyond) (lines_view channel.lines) h.text;
   is = may.is;
 }

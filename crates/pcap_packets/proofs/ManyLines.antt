@@ -322,7 +322,7 @@ part_went all text line rest written done left count s is is_line rest_is =
       line = rw same s.line;
       is = take-add done count text ∙ ap (λ l. l ++ take count (drop done text)) s.before ∙ ap (λ l. lines_text s.lines ++ l) (sym is_line);
       part = take left whole;
-      gone = ap (λ l. take written l) records ∙ ap (λ n. take n (lines_records s.lines ++ (whole ++ lines_records s.later))) s.size ∙ take-append-add (lines_records s.lines) (whole ++ lines_records s.later) left
+      parts = ap (λ l. take written l) records ∙ ap (λ n. take n (lines_records s.lines ++ (whole ++ lines_records s.later))) s.size ∙ take-append-add (lines_records s.lines) (whole ++ lines_records s.later) left
           ∙ ap (λ l. lines_records s.lines ++ l) front;
       cut = ap (λ l. take left whole ++ l) (rest_is ∙ ap (λ l. drop left (record_of (packet_of l))) same) ∙ take-append-drop left whole ∙ ap (λ l. record_of (packet_of l)) (sym same);
     }

@@ -78,7 +78,7 @@ went_behind : (got now : Option (List ℕ)) (text written digits rest : List ℕ
 went_behind got now text written digits rest p is = record {
   written = p.part;
   parts = sym p.cut;
-  got = is ∙ ap (after got) p.gone ∙ sym (after-after got (lines_records p.lines) p.part);
+  got = is ∙ ap (after got) p.parts ∙ sym (after-after got (lines_records p.lines) p.part);
 }
 
 made_behind : (got : Option (List ℕ)) (text written digits rest : List ℕ) (p : PartWent text written digits rest) → AllStand got true [] [] → AllStand (after got (lines_records p.lines)) true digits (record_of (packet_of digits))

@@ -222,7 +222,7 @@ stopped_at own turns n t first last working protection parts ready less stands =
         less,
         record {
           output = output_due own n w p t first last parts.feed agrees.fed;
-          written = agrees.written;
+          written = agrees.sent;
           part = agrees.part;
           report = agrees.told;
         },

@@ -168,7 +168,7 @@ lost_turn own n first was is w p t old tap_w tap_p ew ep choice selector stood d
         let chosen = chooses_of own n first was is.working is.protection w p t old tap_w tap_p ew ep choice selector done gw gp agrees may_w may_p in
         record {
           fed = subst (λ out. FeedStands own first.output out (due_before own n gw gp t) old.feed) (sym same) agrees.fed;
-          written = told.0;
+          sent = told.0;
           part = subst (λ text. told.0 < length text) chosen.line told.1;
           told = subst (λ text. SinkGot first.report (switch_text own n gw gp t ++ take told.0 text) is.report) chosen.line
               (sink_got_twice first.report was.report is.report (switch_text own n gw gp t) (take told.0 (switch_line t choice.side choice.cause)) agrees.told told.2);

@@ -21,7 +21,7 @@ high_slot zero h = omega arith
 high_slot (suc i) h = absurd (omega (arith, h))
 
 one_slot : IsSlotList 8 (1 ∷ [])
-one_slot = record { read = omega arith; low = low_slot; high = high_slot; rising = λ i next. absurd (omega (arith, next)) }
+one_slot = record { taken = omega arith; low = low_slot; high = high_slot; rising = λ i next. absurd (omega (arith, next)) }
 
 pub first_is : IsTributary first_slot
 first_is = is_tributary (record { kind = Otu2; list = 1 ∷ [] }) 1 one_slot

@@ -5,7 +5,7 @@ use Rattle.bundle_command.proofs.Turning.{can_turn_on}
 use Rattle.bundle_command.proofs.command.run_turns.Goals as goal
 
 pub loop-init : goal.loop-init
-loop-init g c = record { ready = c.requires.ready; source = c.requires.source; room = c.requires.room; due = λ clients first h. h }
+loop-init g c = record { ready = c.requires.ready; source = c.requires.source; room = c.requires.room; gone = λ clients first h. h }
 
 pub loop-preserved : goal.loop-preserved
 loop-preserved g c =

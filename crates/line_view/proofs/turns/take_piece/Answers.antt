@@ -34,7 +34,7 @@ returns-clause-moves g c = λ form first read h.
     ∙ ap (λ k. c.args.msi.now.items ++ msi_at (range_with_len 1 (slots_of k)) expected c.frame.result.now) kind
     ∙ ap (λ xs. c.args.msi.now.items ++ msi_at (range_with_len 1 (slots_of form.kind)) expected xs) hand in
     piece_frame form first (in_view g.I.Source c.args.place.now) (in_view g.I.Source c.piece.new.place) read c.args.t expected old c.piece.new.self
-    c.args.watched.now.items c.take_each.new.watched.items c.args.msi.now.items c.note_msi.new.further.items
+    c.args.watched.now.items c.take_each.new.watched.items c.args.msi.now.items c.note_msi.new.msi.items
     c.piece.ensures.pieces (sym c.piece.ensures.has_frame ∙ c.if-not-piece.false) c.piece.ensures.kind count few h p
     (λ available may. c.expected-expected.ensures.line (in_view g.I.Source c.piece.new.place) form first (read ++ p.further) c.args.t p.stands available may)
     (subst (λ xs. EachWatched (TookFrame c.args.t (record { frame = xs; expected = expected })) c.args.watched.now.items c.take_each.new.watched.items) c.frame-2.ensures.hand c.take_each.ensures)

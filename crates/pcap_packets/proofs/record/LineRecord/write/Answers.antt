@@ -13,5 +13,5 @@ invariant_of-self-2 g c =
 pub invariant_of-self : goal.invariant_of-self
 invariant_of-self g c =
     let old = c.args.self.now in
-    let written = c.drain.ensures.written in
+    let written = c.drain.ensures.sent in
     record { front = old.front; few = old.few; digits = old.digits; even = λ some. old.even (let all : held old.rest ≢ [] = rw written.parts (some_behind written.written (held c.drain.new.self) some) in all) }

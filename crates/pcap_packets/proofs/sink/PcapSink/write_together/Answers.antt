@@ -12,7 +12,7 @@ invariant_of-self g c =
     let t = c.if-not-is_between.false in
     record {
       stands = stands_went c.write_lines.result.0 (take c.write_lines.result.1 c.args.lines.now) (g.S.Sink.got old.inner) (g.S.Sink.got c.write_lines.new.sink) old.lines.begun new.begun (held old.lines.line) (held new.line) (held old.lines.rest) (held new.rest)
-          old.stands (b.begun t) (b.line t) (b.rest t) e.begun e.written e.rest;
+          old.stands (b.begun t) (b.line t) (b.rest t) e.begun e.sent e.rest;
     }
 
 pub returns-clause-got : goal.returns-clause-got
@@ -23,4 +23,4 @@ returns-clause-got g c =
     let b = c.is_between.ensures in
     let t = c.if-not-is_between.false in
     got_went c.write_lines.result.0 (take c.write_lines.result.1 c.args.lines.now) (g.S.Sink.got old.inner) (g.S.Sink.got c.write_lines.new.sink) old.lines.begun (held old.lines.line) (held new.line) (held old.lines.rest) (held new.rest)
-    old.stands (b.begun t) (b.line t) (b.rest t) e.written e.rest
+    old.stands (b.begun t) (b.line t) (b.rest t) e.sent e.rest
