@@ -150,7 +150,7 @@ file_made run first last takings numbers inputs file left may used waits live go
     record {
       frames = due.frames;
       made = due.file;
-      is = made_whole (line_out_at first run) (line_out_at last run) line.due (ran.went.line run) file waits line.left live got ∙ due.bytes;
+      is = made_whole (line_out_at first run) (line_out_at last run) line.due (ran.written.line run) file waits line.left live got ∙ due.bytes;
     }
 
 file_lives : (room run : ℕ) (first last : BaysView) (takings : Takings) (numbers : Numbers) (inputs : Inputs) → RunLeft (trial_plan run) first last takings numbers
@@ -166,7 +166,7 @@ file_lives room run first last takings numbers inputs left may used waits full f
     let long : length (concat due.frames) ≡ 16320 * length file.puts = file_size run [] file.puts due.frames file.are_frames in
     let many : length file.puts ≡ 128 = puts.many in
     let bytes : length line.due ≡ length (concat due.frames) = ap length due.bytes in
-    still_lives room (line_out_at first run) (line_out_at last run) line.due (ran.went.line run) waits line.left (full.line run) (omega arith)
+    still_lives room (line_out_at first run) (line_out_at last run) line.due (ran.written.line run) waits line.left (full.line run) (omega arith)
 
 -- ---- the first run
 
@@ -304,6 +304,6 @@ last_ran room first last read asked asked_now places went full =
           let same : client_out_at last c ≡ client.was = client.place in
           let Full : OutView → Type 0 = λ v. (got : List ℕ) → 0 < v.faults → v.got ≡ Some got → length got ≡ room in
           subst (λ v. GotAll v (last_text inputs c)) (sym same)
-          (got_all room (client_out_at first c) client.was (last_text inputs c) (ran.went.client c) (places.clients c h) client.left (subst Full same (full.client c)) few);
+          (got_all room (client_out_at first c) client.was (last_text inputs c) (ran.written.client c) (places.clients c h) client.left (subst Full same (full.client c)) few);
       asked_each = went.asked_each;
     }
