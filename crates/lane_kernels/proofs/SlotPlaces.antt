@@ -20,7 +20,7 @@ order i j = grind arith
 pub apart_more : (row into new : List ℕ) (quarter : ℕ)
     → ((k j : ℕ) → k < 8 * quarter → j < 119 → get_or into (119 * k + j) 0 ≡ get_or row (32 * j + k) 0)
     → ((k j : ℕ) → k < 8 → j < 119 → get_or new (952 * quarter + 119 * k + j) 0 ≡ get_or row (8 * quarter + 32 * j + k) 0)
-    → ((n : ℕ) → (n < 952 * quarter) ⊎ (952 * quarter + 119 * 8 ≤ n) → get_or new n 0 ≡ get_or into n 0)
+    → ((n : ℕ) → ((b : ℕ) → b < 8 → (n < 952 * quarter + 119 * b) ⊎ (952 * quarter + 119 * b + 119 ≤ n)) → get_or new n 0 ≡ get_or into n 0)
     → (k j : ℕ) → k < 8 * (quarter + 1) → j < 119 → get_or new (119 * k + j) 0 ≡ get_or row (32 * j + k) 0
 apart_more row into new quarter before here others k j lk lj = go (order (8 * quarter) k)
   where
@@ -29,7 +29,7 @@ apart_more row into new quarter before here others k j lk lj = go (order (8 * qu
         ap (λ n. get_or new n 0) (let e : 119 * k + j ≡ 952 * quarter + 119 * (k - 8 * quarter) + j = omega arith in e)
         ∙ here (k - 8 * quarter) j (omega arith) lj
         ∙ ap (λ n. get_or row n 0) (let e : 8 * quarter + 32 * j + (k - 8 * quarter) ≡ 32 * j + k = omega arith in e)
-    go (inr h) = others (119 * k + j) (inl (omega arith)) ∙ before k j h lj
+    go (inr h) = others (119 * k + j) (λ b lb. inl (omega arith)) ∙ before k j h lj
 
 pub together_more : (lists into new : List ℕ) (quarter : ℕ)
     → ((k j : ℕ) → k < 8 * quarter → j < 119 → get_or into (32 * j + k) 0 ≡ get_or lists (119 * k + j) 0)

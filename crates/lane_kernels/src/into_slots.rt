@@ -1,5 +1,5 @@
 // A row into its slots.
-ghost use Rattle.std.specs.Prelude.{◌≡◌, ℕ, ◌+◌, ◌*◌, ◌/◌, ◌%◌, ◌<◌, length, slice_index};
+ghost use Rattle.std.specs.Prelude.{◌≡◌, ℕ, ◌+◌, ◌*◌, ◌/◌, ◌%◌, ◌<◌, ◌≤◌, ◌⊎◌, length, slice_index};
 ghost use Rattle.lane_kernels.specs.SlotPlaces.{slot_bytes};
 ghost use Rattle.otn_base.specs.declared.limits.TheConstants.{OTU2_SLOTS, OTU3_SLOTS, PAYLOAD_COLUMNS};
 ghost use Rattle.lane_kernels.specs.declared.slot_rows.TheConstants.{OTU2_SLOT_ROW, OTU3_SLOT_ROW};
@@ -32,13 +32,29 @@ pub fn split8(row: &[u8], into: &mut SlotRows<OTU2_SLOTS>)
     split(row, into);
 }
 
+/// Writes the payload of a row of an OTU2, 3,808 bytes, slot by slot into bytes that have `wide` for each slot, behind
+/// the first `at` of them: byte x, from 0, is byte `at + x / 8` of slot `x % 8 + 1` (G.709 clause 19.1). Every other byte
+/// stays.
+#[inline]
+pub fn split8_among(row: &[u8], into: &mut [u8], at: usize, wide: usize)
+    requires row { length row.now ≡ PAYLOAD_COLUMNS }
+    requires into { length into.old ≡ OTU2_SLOTS * wide }
+    requires at { at + OTU2_SLOT_ROW ≤ wide }
+    ensures here { (k j : ℕ) → k < OTU2_SLOTS → j < OTU2_SLOT_ROW
+        → slice_index into.new (wide * k + at + j) ≡ slice_index row.now (OTU2_SLOTS * j + k) }
+    ensures others { (k j : ℕ) → k < OTU2_SLOTS → j < wide → (j < at) ⊎ (at + OTU2_SLOT_ROW ≤ j)
+        → slice_index into.new (wide * k + j) ≡ slice_index into.old (wide * k + j) }
+{
+    turn::apart(row, 0, OTU2_SLOTS, into, at, OTU2_SLOT_ROW, wide);
+}
+
 fn split_eight(row: &[u8], into: &mut [u8])
     requires row { length row.now ≡ PAYLOAD_COLUMNS }
     requires into { length into.old ≡ PAYLOAD_COLUMNS }
     ensures { (k j : ℕ) → k < OTU2_SLOTS → j < OTU2_SLOT_ROW
         → slice_index into.new (OTU2_SLOT_ROW * k + j) ≡ slice_index row.now (OTU2_SLOTS * j + k) }
 {
-    turn::apart(row, 0, OTU2_SLOTS, into, 0, OTU2_SLOT_ROW);
+    split8_among(row, into, 0, OTU2_SLOT_ROW);
 }
 
 // Eight slots after the other.
@@ -55,6 +71,7 @@ fn split_thirty_two(row: &[u8], into: &mut [u8])
             OTU3_SLOTS,
             into,
             GROUP * OTU3_SLOT_ROW * quarter,
+            OTU3_SLOT_ROW,
             OTU3_SLOT_ROW,
         );
     }

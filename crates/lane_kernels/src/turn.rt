@@ -6,20 +6,30 @@ use crate::block::Block;
 /// The bytes of a group, as a vector of eight bytes holds them.
 pub(crate) const GROUP: usize = 8;
 
-/// Writes eight lists of `count` bytes one after the other, at `to`: byte j of list k, from 0, is byte k
-/// of the group that begins `step * j` bytes behind `first`.
+/// Writes eight lists of `count` bytes, each `wide` bytes behind the one before it, from `to` on: byte j of list k, from
+/// 0, is byte k of the group that begins `step * j` bytes behind `first`.
 #[inline(always)]
-pub(crate) fn apart(row: &[u8], first: usize, step: usize, into: &mut [u8], to: usize, count: usize)
+pub(crate) fn apart(
+    row: &[u8],
+    first: usize,
+    step: usize,
+    into: &mut [u8],
+    to: usize,
+    count: usize,
+    wide: usize,
+)
     requires count { 16 ≤ count }
+    requires wide { count ≤ wide }
     requires row { first + step * count + 8 ≤ length row.now + step }
-    requires into { to + count * 8 ≤ length into.old }
+    requires into { to + wide * 7 + count ≤ length into.old }
     ensures here { (k j : ℕ) → k < 8 → j < count
-        → slice_index into.new (to + count * k + j) ≡ slice_index row.now (first + step * j + k) }
-    ensures others { (n : ℕ) → (n < to) ⊎ (to + count * 8 ≤ n) → slice_index into.new n ≡ slice_index into.old n }
+        → slice_index into.new (to + wide * k + j) ≡ slice_index row.now (first + step * j + k) }
+    ensures others { (n : ℕ) → ((k : ℕ) → k < 8 → (n < to + wide * k) ⊎ (to + wide * k + count ≤ n))
+        → slice_index into.new n ≡ slice_index into.old n }
 {
     for block in 0..count / 16 + 1 {
         let from = (16 * block).min(count - 16);
-        block_apart(row, first + step * from, step, into, to + from, count);
+        block_apart(row, first + step * from, step, into, to + from, wide);
     }
 }
 

@@ -23,7 +23,7 @@ use node_links::{
     write_line,
 };
 use node_moments::{new_lines_in, new_lines_out, new_links};
-use odtu_columns::SlotFrame;
+use odtu_columns::{SlotFrame, SlotPayload};
 use otn_base::{Memory, PortName};
 use otn_ports::{InPlaceOf, OutPlaceOf, Rack, Sink, Source};
 use plan_file::Plan;
@@ -41,6 +41,7 @@ pub struct Node {
     pub(crate) lines_out: Vec<LineOut>,
     pub(crate) links: Vec<Link>,
     // In hand only within a step of a line.
+    pub(crate) payload: SlotPayload,
     pub(crate) slots: SlotFrame,
 }
 
@@ -69,6 +70,7 @@ impl Node {
         let lines_in = new_lines_in(alloc, plan)?;
         let lines_out = new_lines_out(alloc, plan)?;
         let links = new_links(alloc, plan)?;
+        let payload = SlotPayload::new(alloc)?;
         let slots = SlotFrame::new(alloc)?;
         Ok(Node {
             turns: plan.turns,
@@ -77,6 +79,7 @@ impl Node {
             lines_in,
             lines_out,
             links,
+            payload,
             slots,
         })
     }
@@ -154,7 +157,7 @@ impl Node {
             a,
             self.past,
             &mut self.links,
-            &mut self.slots,
+            &mut self.payload,
             place,
         );
     }

@@ -9,19 +9,19 @@ ghost use Rattle.node_links.specs.Moves.{EachLink, TookFrame, ReadsLine};
 use crate::link::Link;
 use frame_geometry::Frame;
 use line_side::LineIn;
-use odtu_columns::{SlotFrame, SplitFrame, TakeFrame};
+use odtu_columns::{SlotPayload, SplitFrame, TakeFrame};
 use otn_base::PortName;
 use otn_base::limits::LINE_COLUMNS;
 use otn_ports::{InPlaceOf, Source};
 
 /// One piece of line input `a` in turn past + 1: where it comes to a frame of the turn's multiframe, each active
-/// connection from the line takes it. What `slots` holds is of no account, before and behind the call.
+/// connection from the line takes it. What `payload` holds is of no account, before and behind the call.
 pub fn read_line<P: Source>(
     line: &mut LineIn,
     a: u8,
     past: u32,
     links: &mut Vec<Link>,
-    slots: &mut SlotFrame,
+    payload: &mut SlotPayload,
     place: &mut InPlaceOf<P>,
 )
     requires pieces { line.old.pieces < slots_of line.old.kind }
@@ -31,7 +31,7 @@ pub fn read_line<P: Source>(
     if !line.piece(place) {
         return;
     }
-    hand_out(a, past, line.frame(), line.expected(), links, slots);
+    hand_out(a, past, line.frame(), line.expected(), links, payload);
 }
 
 // Each active connection from line input `a` takes a frame of it, with the MFAS that is expected of it.
@@ -41,14 +41,14 @@ fn hand_out(
     frame: &Frame<LINE_COLUMNS>,
     expected: u8,
     links: &mut Vec<Link>,
-    slots: &mut SlotFrame,
+    payload: &mut SlotPayload,
 )
     ensures { EachLink (λ link then. TookFrame (takes_part past (line-in a) link)
         (record { frame = frame.now; expected = expected }) link then) links.old.items links.new.items }
 {
     if is_by_slots(a, past, links) {
-        slots.split(frame);
-        hand_each(a, past, &SplitFrame::new(frame, slots), expected, links);
+        payload.split(frame);
+        hand_each(a, past, &SplitFrame::new(frame, payload), expected, links);
         return;
     }
     hand_each(a, past, frame, expected, links);

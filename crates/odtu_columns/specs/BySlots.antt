@@ -1,9 +1,9 @@
 -- API: a line's frame whose payload is kept by the tributary slots of an OTU2, each row for itself.
-use Rattle.std.specs.Prelude.{◌≡◌, ℕ, ◌+◌, ◌-◌, ◌/◌, ◌%◌, ◌<◌, ◌≤◌, Bool, false, ◌&&◌, nat_le, nat_lt, if◌then◌else◌, ◌==◌, List, [], get_or, map, slice_index}
+use Rattle.std.specs.Prelude.{◌≡◌, ℕ, ◌+◌, ◌-◌, ◌*◌, ◌/◌, ◌%◌, ◌<◌, ◌≤◌, Bool, false, ◌&&◌, nat_le, nat_lt, if◌then◌else◌, ◌==◌, List, [], get_or, map, slice_index}
 use Rattle.std.specs.List.{range_with_len}
 use Rattle.frame_geometry.specs.Places.{place_of}
 use Rattle.lane_kernels.specs.SlotPlaces.{slot_bytes}
-use Rattle.otn_base.specs.declared.limits.TheConstants.{LINE_COLUMNS, LINE_FRAME_BYTES, OTU2_SLOTS, PAYLOAD_COLUMNS, OVERHEAD_COLUMNS}
+use Rattle.otn_base.specs.declared.limits.TheConstants.{LINE_COLUMNS, LINE_FRAME_BYTES, OTU2_SLOTS, PAYLOAD_COLUMNS, OVERHEAD_COLUMNS, ROWS}
 
 -- G.709 clause 12.1: the payload of a row stands in columns 17 to 3824
 abbrev pub is_payload : (place : ℕ) → Bool
@@ -41,7 +41,9 @@ message_frame message = map (message_byte message) (range_with_len 0 LINE_FRAME_
 unfoldable pub frame_by_slots : (frame : List ℕ) → (rows : List (List ℕ)) → List ℕ
 frame_by_slots frame rows = map (byte_by_slots frame rows) (range_with_len 0 LINE_FRAME_BYTES)
 
--- G.709 clause 12.1: a frame has the payload of another one.
-pub record HasPayloadOf (frame now : List ℕ) : Type 0 where
-  pub bytes : (row x : ℕ) → 1 ≤ row → row ≤ 4 → x < PAYLOAD_COLUMNS
-      → slice_index now (place_of LINE_COLUMNS row (17 + x)) ≡ slice_index frame (place_of LINE_COLUMNS row (17 + x))
+-- G.709 clause 19.1: the bytes of the slots of a frame's payload, one slot after the other, those of a slot row by row
+pub record IsPayloadOf (frame by_slots : List ℕ) : Type 0 where
+  pub bytes : (k row j : ℕ) → k < OTU2_SLOTS → 1 ≤ row → row ≤ ROWS → j < PAYLOAD_COLUMNS / OTU2_SLOTS
+      → slice_index by_slots
+      (ROWS * (PAYLOAD_COLUMNS / OTU2_SLOTS) * k + PAYLOAD_COLUMNS / OTU2_SLOTS * (row - 1) + j)
+      ≡ slice_index frame (place_of LINE_COLUMNS row (17 + (OTU2_SLOTS * j + k)))

@@ -11,9 +11,6 @@ use otn_base::limits::{OTU2_SLOTS, PAYLOAD_COLUMNS};
 use std::alloc::Global;
 use std::marker::Model;
 
-// What is seen of a slot that is not filled.
-static UNFILLED: [u8; PAYLOAD_COLUMNS / OTU2_SLOTS] = [0; PAYLOAD_COLUMNS / OTU2_SLOTS];
-
 /// The payload of a row, slot by slot. A slot that is not filled has bytes 0, whatever is kept of it, so a row that all
 /// its slots fill anew is not cleared byte by byte before. It is seen as the bytes of slot 1, then those of slot 2, and
 /// so on.
@@ -49,19 +46,6 @@ impl FilledRow {
         ensures { (x : ℕ) → x < PAYLOAD_COLUMNS → joined_byte self.new x ≡ 0 }
     {
         self.filled = [false; OTU2_SLOTS];
-    }
-
-    /// The bytes of slot `k` (1 to 8).
-    pub fn slot(&self, k: u8) -> &[u8]
-        requires low { 1 ≤ k }
-        requires high { k ≤ OTU2_SLOTS }
-        ensures bytes { result.now ≡ slot_bytes OTU2_SLOTS k self.now }
-        ensures size { length result.now ≡ PAYLOAD_COLUMNS / OTU2_SLOTS }
-    {
-        if self.filled[k as usize - 1] {
-            return self.rows.slot(k);
-        }
-        &UNFILLED
     }
 
     /// Puts the bytes of slot `k` (1 to 8), 476 of them; every other byte stays.

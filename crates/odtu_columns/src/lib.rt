@@ -9,7 +9,8 @@
 //! - `slot_frame`: `SlotFrame`, such a frame that is kept by slots.
 //! - `filled_row`: a row of it, of which some slots are filled.
 //! - `take`: `TakeFrame`, a frame of which sinks take.
-//! - `split_frame`: `SplitFrame`, such a frame beside its payload by slots.
+//! - `slot_payload`: `SlotPayload`, the payload of a frame by slots.
+//! - `split_frame`: `SplitFrame`, a frame of which sinks take, beside its payload by slots.
 //! - `line`: the kernels below them, for a line of either kind.
 #![tactic(auto)]
 
@@ -22,6 +23,7 @@ mod line;
 mod put;
 mod slot;
 mod slot_frame;
+mod slot_payload;
 mod split_frame;
 mod take;
 
@@ -32,5 +34,6 @@ pub use laying::RowGroups;
 pub use put::{put_group, put_row_groups, put_slot_row};
 pub use slot::slot_row;
 pub use slot_frame::SlotFrame;
+pub use slot_payload::SlotPayload;
 pub use split_frame::SplitFrame;
 pub use take::TakeFrame;

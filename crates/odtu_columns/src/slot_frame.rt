@@ -4,7 +4,7 @@ ghost use Rattle.frame_geometry.specs.Places.{place_of};
 ghost use Rattle.otn_base.specs.LineSlots.{slots_of};
 ghost use Rattle.otn_base.specs.SlotList.{IsSlotList};
 ghost use Rattle.otn_base.specs.declared.limits.TheConstants.{LINE_COLUMNS, LINE_FRAME_BYTES, OTU2_SLOTS, PAYLOAD_COLUMNS};
-ghost use Rattle.odtu_columns.specs.BySlots.{joined_byte, HasPayloadOf};
+ghost use Rattle.odtu_columns.specs.BySlots.{joined_byte};
 ghost use Rattle.odtu_columns.specs.Steps.BySlots.{IsOutside, RowJoined};
 
 use crate::RowGroups;
@@ -72,35 +72,6 @@ impl SlotFrame {
         self.row4.clear();
     }
 
-    /// Takes over the payload of a frame of an OTU2, by slots.
-    pub fn split(&mut self, frame: &Frame<LINE_COLUMNS>)
-        ensures { HasPayloadOf frame.now self.new }
-    {
-        split_row(frame, 1, &mut self.row1);
-        split_row(frame, 2, &mut self.row2);
-        split_row(frame, 3, &mut self.row3);
-        split_row(frame, 4, &mut self.row4);
-    }
-
-    /// The bytes of slot `k` (1 to 8) in a row (1 to 4), 476 of them, in the order of their columns.
-    pub fn slot(&self, row: u32, k: u8) -> &[u8]
-        requires row_low { 1 ≤ row }
-        requires row_high { row ≤ 4 }
-        requires slot_low { 1 ≤ k }
-        requires slot_high { k ≤ OTU2_SLOTS }
-        ensures size { length result.now ≡ PAYLOAD_COLUMNS / OTU2_SLOTS }
-        ensures bytes { (j : ℕ) → j < PAYLOAD_COLUMNS / OTU2_SLOTS
-            → slice_index result.now j ≡ slice_index self.now
-            (place_of LINE_COLUMNS row (17 + (OTU2_SLOTS * j + (k - 1)))) }
-    {
-        match row {
-            1 => self.row1.slot(k),
-            2 => self.row2.slot(k),
-            3 => self.row3.slot(k),
-            _ => self.row4.slot(k),
-        }
-    }
-
     /// Writes its bytes into a frame, whatever that holds.
     pub fn join_into(&mut self, frame: &mut Frame<LINE_COLUMNS>)
         ensures joined { frame.new ≡ self.old }
@@ -145,16 +116,6 @@ impl FillFrame for SlotFrame {
     fn fill_message(&mut self, message: [u8; 6]) {
         self.message = message;
     }
-}
-
-// Takes over the payload of a row of a frame.
-fn split_row(frame: &Frame<LINE_COLUMNS>, row: u32, rows: &mut FilledRow)
-    requires low { 1 ≤ row }
-    requires high { row ≤ 4 }
-    ensures { (x : ℕ) → x < PAYLOAD_COLUMNS
-        → joined_byte rows.new x ≡ slice_index frame.now (place_of LINE_COLUMNS row (17 + x)) }
-{
-    rows.split(frame.payload_row(row));
 }
 
 // Writes 0 into every byte that is in no payload column.

@@ -1,14 +1,14 @@
 // A frame of an OTU2 beside its payload by tributary slots.
-ghost use Rattle.std.specs.Prelude.{◌≡◌, ◌+◌, ◌-◌, ◌*◌, ◌/◌, ◌<◌, ◌≤◌, ℕ, List, length, slice_index};
+ghost use Rattle.std.specs.Prelude.{◌≡◌, ◌+◌, ◌-◌, ◌*◌, ◌/◌, ◌<◌, ◌≤◌, ℕ, List, [], ◌∷◌, IfSome, length, slice_index};
 ghost use Rattle.frame_geometry.specs.Places.{payload_row_of, place_of};
 ghost use Rattle.otn_base.specs.LineSlots.{slots_of};
 ghost use Rattle.otn_base.specs.SlotList.{IsSlotList};
-ghost use Rattle.otn_base.specs.declared.limits.TheConstants.{LINE_COLUMNS, PAYLOAD_COLUMNS};
-ghost use Rattle.odtu_columns.specs.BySlots.{HasPayloadOf};
+ghost use Rattle.otn_base.specs.declared.limits.TheConstants.{LINE_COLUMNS, PAYLOAD_COLUMNS, ROWS};
+ghost use Rattle.odtu_columns.specs.BySlots.{IsPayloadOf};
 ghost use Rattle.odtu_columns.specs.Message.{message_of};
 ghost use Rattle.odtu_columns.specs.Payload.{payload_group, run_groups};
 
-use crate::SlotFrame;
+use crate::SlotPayload;
 use crate::take::TakeFrame;
 use frame_geometry::Frame;
 use otn_base::Slots;
@@ -20,24 +20,24 @@ use std::marker::Model;
 #[derive(Drop)]
 pub struct SplitFrame<'a> {
     frame: &'a Frame<LINE_COLUMNS>,
-    slots: &'a SlotFrame,
+    slots: &'a SlotPayload,
 }
 
 impl<'a> Model for SplitFrame<'a> {
     ghost use Rattle.std.specs.Prelude.{ℕ, List};
-    ghost use Rattle.odtu_columns.specs.BySlots.{HasPayloadOf};
+    ghost use Rattle.odtu_columns.specs.BySlots.{IsPayloadOf};
 
     ghost Value = { List ℕ };
 
     ghost view = { λ f. f.frame.now };
 
-    ghost invariant = { λ f. HasPayloadOf f.frame.now f.slots.now };
+    ghost invariant = { λ f. IsPayloadOf f.frame.now f.slots.now };
 }
 
 impl<'a> SplitFrame<'a> {
     /// This frame, whose payload is kept by slots.
-    pub fn new(frame: &'a Frame<LINE_COLUMNS>, slots: &'a SlotFrame) -> SplitFrame<'a>
-        requires { HasPayloadOf frame.now slots.now }
+    pub fn new(frame: &'a Frame<LINE_COLUMNS>, slots: &'a SlotPayload) -> SplitFrame<'a>
+        requires { IsPayloadOf frame.now slots.now }
         ensures { result ≡ frame.now }
     {
         SplitFrame { frame, slots }
@@ -48,20 +48,18 @@ impl<'a> TakeFrame for SplitFrame<'a> {
     ghost bytes = { λ frame. frame };
 
     fn take_group(&self, row: u32, cycle: usize, slots: &Slots, into: &mut [u8]) {
-        if slots.is_otu2_slot() {
-            into[0] = self.slots.slot(row, slots.last())[cycle];
-            return;
-        }
         self.frame.take_group(row, cycle, slots, into);
     }
 
     fn take_groups(&self, row: u32, first: usize, count: usize, slots: &Slots, into: &mut [u8]) {
-        if slots.is_otu2_slot() {
-            let bytes = self.slots.slot(row, slots.last());
-            into.copy_from_slice(&bytes[first..first + count]);
-            return;
-        }
         self.frame.take_groups(row, first, count, slots, into);
+    }
+
+    fn own_bytes(&self, slots: &Slots) -> Option<&[u8]> {
+        if slots.is_otu2_slot() {
+            return Some(self.slots.slot(slots.last()));
+        }
+        None
     }
 
     fn take_message(&self) -> [u8; 6] {

@@ -1,8 +1,8 @@
 // A frame of a line of which sinks take their own.
-ghost use Rattle.std.specs.Prelude.{◌≡◌, ◌+◌, ◌*◌, ◌/◌, ◌<◌, ◌≤◌, ℕ, List, length, slice_index};
+ghost use Rattle.std.specs.Prelude.{◌≡◌, ◌+◌, ◌-◌, ◌*◌, ◌/◌, ◌<◌, ◌≤◌, ℕ, List, [], ◌∷◌, IfSome, length, slice_index};
 ghost use Rattle.frame_geometry.specs.Places.{payload_row_of, place_of};
 ghost use Rattle.otn_base.specs.LineSlots.{slots_of};
-ghost use Rattle.otn_base.specs.declared.limits.TheConstants.{LINE_COLUMNS, PAYLOAD_COLUMNS};
+ghost use Rattle.otn_base.specs.declared.limits.TheConstants.{LINE_COLUMNS, PAYLOAD_COLUMNS, ROWS};
 ghost use Rattle.odtu_columns.specs.Message.{message_of};
 ghost use Rattle.odtu_columns.specs.Payload.{payload_group, run_groups};
 
@@ -38,6 +38,17 @@ pub trait TakeFrame: Drop {
         ensures { into.new ≡ run_groups (slots_of slots.now.kind)
             (payload_row_of LINE_COLUMNS row (bytes self.now)) slots.now.list first count };
 
+    /// The bytes of these slots in the frame, where they are one slot alone and its bytes stand together: those of row 1,
+    /// then those of row 2, and so on. Else nothing.
+    fn own_bytes(&self, slots: &Slots) -> Option<&[u8]>
+        ensures one { IfSome result (λ own. length slots.now.list ≡ 1) }
+        ensures size { IfSome result (λ own. length own.now ≡ ROWS * (PAYLOAD_COLUMNS / slots_of slots.now.kind)) }
+        ensures groups { IfSome result (λ own. (row cycle : ℕ) → 1 ≤ row → row ≤ ROWS
+            → cycle < PAYLOAD_COLUMNS / slots_of slots.now.kind
+            → slice_index own.now (PAYLOAD_COLUMNS / slots_of slots.now.kind * (row - 1) + cycle) ∷ []
+            ≡ payload_group (slots_of slots.now.kind)
+            (payload_row_of LINE_COLUMNS row (bytes self.now)) slots.now.list cycle) };
+
     /// JC1 to JC6, in this order.
     fn take_message(&self) -> [u8; 6]
         ensures { result ≡ message_of (bytes self.now) };
@@ -56,6 +67,10 @@ impl TakeFrame for Frame<LINE_COLUMNS> {
 
     fn take_groups(&self, row: u32, first: usize, count: usize, slots: &Slots, into: &mut [u8]) {
         cycle_groups(self.payload_row(row), first, count, slots, into);
+    }
+
+    fn own_bytes(&self, _slots: &Slots) -> Option<&[u8]> {
+        None
     }
 
     fn take_message(&self) -> [u8; 6] {

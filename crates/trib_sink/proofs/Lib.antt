@@ -9,3 +9,4 @@ pub mod Frames
 pub mod Stands
 pub mod Ends
 mod Pairing
+pub mod OwnBytes

@@ -1,9 +1,9 @@
 -- The pair of numbers of the last turn is what the machine without totals keeps of it.
-use Rattle.std.proofs.Common.{◌≡◌, ℕ, ◌*◌, ◌<◌, List, [], ◌∷◌, length, Bool, true, false, cond, Option, Some, None, refl, ap, ◌∙◌}
+use Rattle.std.proofs.Common.{◌≡◌, ℕ, ◌*◌, ◌<◌, List, [], ◌∷◌, length, Bool, true, false, cond, Option, None, refl, ap, ◌∙◌}
 use Rattle.tributary_model.specs.Places.{Tributary, Taken, View}
-use Rattle.tributary_model.specs.Stretches.{Member, Part, WaitingTurn, DownTurn, StretchTurn, EndingTurn, course}
+use Rattle.tributary_model.specs.Stretches.{Part, WaitingTurn, DownTurn, StretchTurn, EndingTurn, course}
 use Rattle.tributary_model.specs.Emission.{down_run}
-use Rattle.tributary_model.specs.Machine.{Machine, machine_after}
+use Rattle.tributary_model.specs.Machine.{Machine}
 use Rattle.tributary_model.proofs.Law.{SoundCourse, machine_of, waits, waiting_at, down_at, stands}
 use Rattle.trib_sink.specs.Pairs.{pair_of, pair_after}
 use Rattle.trib_sink.specs.Steps.Pairs.{pair_of_standing}

@@ -1,12 +1,13 @@
-// The bytes of the data groups of a row, out of its payload columns.
-ghost use Rattle.std.specs.Prelude.{◌≡◌, ◌+◌, ◌*◌, ◌<◌, ◌≤◌, ◌++◌, [], if◌then◌else◌, length, take};
+// The bytes of the data groups of a row, out of its payload columns, and those of a frame where each is one byte and all
+// stand together.
+ghost use Rattle.std.specs.Prelude.{◌≡◌, ◌+◌, ◌*◌, ◌<◌, ◌≤◌, ◌++◌, [], ◌∷◌, if◌then◌else◌, length, take};
 ghost use Rattle.frame_geometry.specs.Places.{payload_row_of};
 ghost use Rattle.gmp_rule.specs.DataRule.{is_data_at};
 ghost use Rattle.odtu_columns.specs.Payload.{payload_group, run_groups};
 ghost use Rattle.otn_base.specs.LineSlots.{slots_of};
 ghost use Rattle.otn_base.specs.declared.limits.TheConstants.{GROUPS, LINE_COLUMNS, PAYLOAD_COLUMNS};
 ghost use Rattle.trib_sink.specs.Rows.{row_cycles};
-ghost use Rattle.trib_sink.specs.Steps.Rows.{row_data};
+ghost use Rattle.trib_sink.specs.Steps.Rows.{row_data, own_data};
 
 use gmp_rule::Runner;
 use odtu_columns::TakeFrame;
@@ -163,5 +164,68 @@ fn put_few<F: TakeFrame>(
     for i in 0..count {
         end = put_cycle(frame, row, first + i, slots, into, end);
     }
+    end
+}
+
+/// Writes the data groups among these of one byte each, one after the other, to `into` at `at`, and says where they end.
+/// What stands before them stays. The next group that the runner is asked about is the first of them.
+#[tactic(auto, using(crate::proofs::Rows::row_steps))]
+pub(crate) fn take_own(runner: &mut Runner, own: &[u8], into: &mut [u8], at: usize) -> usize
+    requires room { at + length own.now ≤ length into.old }
+    requires asked { runner.old.asked + length own.now ≤ GROUPS }
+    ensures count { result ≤ at + length own.now }
+    ensures bytes { take result into.new ≡ take at into.old ++ own_data runner.old.cm runner.old.asked own.now }
+    ensures runner { runner.new ≡ record runner.old { asked = runner.old.asked + length own.now } }
+{
+    let count = own.len();
+    let mut end = at;
+    let mut cycle = 0usize;
+    while cycle < count {
+        end = take_byte(runner, own, cycle, into, end);
+        let run = runner.data_run((count - cycle - 1) as u32) as usize;
+        end = put_bytes(own, cycle + 1, run, into, end);
+        cycle += run + 1;
+    }
+    end
+}
+
+// Writes one of these bytes at `at`, where its group is data, and says where it ends.
+#[inline(always)]
+fn take_byte(runner: &mut Runner, own: &[u8], cycle: usize, into: &mut [u8], at: usize) -> usize
+    requires cycle { cycle < length own.now }
+    requires room { at + 1 ≤ length into.old }
+    requires asked { runner.old.asked < GROUPS }
+    ensures end { result ≤ at + 1 }
+    ensures bytes { take result into.new ≡ take at into.old
+        ++ (if is_data_at runner.old.cm (runner.old.asked + 1) then payload_group 1 own.now (1 ∷ []) cycle else []) }
+    ensures runner { runner.new ≡ record runner.old { asked = runner.old.asked + 1 } }
+{
+    if !runner.next() {
+        return at;
+    }
+    put_byte(own[cycle], into, at)
+}
+
+// Writes a byte at `at`, and says where it ends.
+#[inline(always)]
+fn put_byte(byte: u8, into: &mut [u8], at: usize) -> usize
+    requires room { at + 1 ≤ length into.old }
+    ensures end { result ≡ at + 1 }
+    ensures bytes { take result into.new ≡ take at into.old ++ byte ∷ [] }
+{
+    into[at] = byte;
+    at + 1
+}
+
+// Writes `count` of these bytes, from `first` on, at `at`, and says where they end.
+#[inline(always)]
+fn put_bytes(own: &[u8], first: usize, count: usize, into: &mut [u8], at: usize) -> usize
+    requires bytes { first + count ≤ length own.now }
+    requires room { at + count ≤ length into.old }
+    ensures end { result ≡ at + count }
+    ensures bytes { take result into.new ≡ take at into.old ++ run_groups 1 own.now (1 ∷ []) first count }
+{
+    let end = at + count;
+    into[at..end].copy_from_slice(&own[first..first + count]);
     end
 }

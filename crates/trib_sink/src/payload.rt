@@ -7,7 +7,7 @@ ghost use Rattle.maintenance_signals.specs.Stream.{signal_bytes};
 ghost use Rattle.otn_base.specs.LineSlots.{slots_of};
 ghost use Rattle.otn_base.specs.declared.limits.TheConstants.{GROUPS, LINE_COLUMNS, MOST_SLOTS, NOMINAL};
 ghost use Rattle.trib_sink.specs.Rows.{row_cycles};
-ghost use Rattle.trib_sink.specs.Steps.Rows.{row_data, with_rows, after_frame};
+ghost use Rattle.trib_sink.specs.Steps.Rows.{own_data, row_data, with_rows, after_frame};
 
 use crate::extract;
 use gmp_rule::Runner;
@@ -84,14 +84,33 @@ impl Payload {
         self.slots
     }
 
-    /// Extracts the data groups of a frame, row by row.
+    /// Extracts the data groups of a frame: at once where they are bytes that stand together, else row by row.
     pub(crate) fn take_frame<F: TakeFrame>(&mut self, frame: &F, slots: &Slots)
         requires count { length slots.now.list ≡ self.old.slots }
         requires asked { self.old.asked + 4 * row_cycles slots.now.kind ≤ GROUPS }
         ensures { self.new ≡ after_frame slots.now (F.bytes frame.now) self.old }
     {
+        if let Some(own) = frame.own_bytes(slots) {
+            self.take_own(own);
+            return;
+        }
         self.take_rows(frame, slots, 1);
         self.take_rows(frame, slots, 3);
+    }
+
+    // Extracts the data groups among these of one byte each, over what was emitted.
+    fn take_own(&mut self, own: &[u8])
+        requires one { self.old.slots ≡ 1 }
+        requires asked { self.old.asked + length own.now ≤ GROUPS }
+        ensures { self.new ≡ record self.old {
+          asked = self.old.asked + length own.now;
+          fresh = self.old.fresh ++ own_data self.old.cm self.old.asked own.now;
+          emitted = [];
+        } }
+    {
+        self.end = extract::take_own(&mut self.runner, own, &mut self.fresh, self.end);
+        self.from = 0;
+        self.past = 0;
     }
 
     // Extracts the data groups of a row and of the next one.

@@ -1,5 +1,5 @@
 -- Steps of `take_frame`, `take_rows` and others: what private contracts alone cite, beside the definitions of `Rows`.
-use Rattle.std.specs.Prelude.{ℕ, ◌+◌, List, [], ◌++◌, if◌then◌else◌}
+use Rattle.std.specs.Prelude.{ℕ, ◌+◌, List, [], ◌∷◌, ◌++◌, if◌then◌else◌, length}
 use Rattle.std.specs.List.{range_with_len, flat_map, enumerate_from}
 use Rattle.otn_base.specs.declared.limits.TheConstants.{LINE_COLUMNS}
 use Rattle.otn_base.specs.LineSlots.{LineSlots, slots_of}
@@ -15,6 +15,11 @@ unfoldable pub row_data : (line_slots c before : ℕ) → (payload slots : List 
 row_data line_slots c before payload slots n =
     flat_map (λ x. if is_data_at c (before + x + 1) then payload_group line_slots payload slots x else [])
     (range_with_len 0 n)
+
+-- The bytes of the data groups among these of one byte each, before which stand so many of the multiframe: they are those
+-- of a row of a line that has one slot.
+abbrev pub own_data : (c before : ℕ) → (own : List ℕ) → List ℕ
+own_data c before own = row_data 1 c before own (1 ∷ []) (length own)
 
 -- the bytes of the data groups among these, before which stand so many of the multiframe
 unfoldable pub data_from : (c before : ℕ) → List (List ℕ) → List ℕ

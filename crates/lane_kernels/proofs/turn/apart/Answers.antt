@@ -8,7 +8,7 @@ loop-block-preserved c =
     let low : from ≤ 16 * c.loop-block.block = omega arith in
     let room : from + 16 ≤ c.args.count = omega arith in
     record {
-      here = λ k j lk lj inside. apart_here c.args.row.now c.loop-block.into c.block_apart.new.into c.args.first c.args.step c.args.to c.args.count from (16 * c.loop-block.block)
-          low room c.loop-block.invariant.here c.block_apart.ensures.here c.block_apart.ensures.others k j lk (omega arith) inside;
-      others = apart_others c.args.into.now c.loop-block.into c.block_apart.new.into c.args.to c.args.count from room c.loop-block.invariant.others c.block_apart.ensures.others;
+      here = λ k j lk lj inside. apart_here c.args.row.now c.loop-block.into c.block_apart.new.into c.args.first c.args.step c.args.to c.args.count c.args.wide from (16 * c.loop-block.block)
+          c.requires.wide low room c.loop-block.invariant.here c.block_apart.ensures.here c.block_apart.ensures.others k j lk (omega arith) inside;
+      others = apart_others c.args.into.now c.loop-block.into c.block_apart.new.into c.args.to c.args.count c.args.wide from room c.loop-block.invariant.others c.block_apart.ensures.others;
     }
