@@ -37,7 +37,7 @@ top_bits v0 v1 v2 v3 v4 v5 v6 v7 hv3 hv4 hv5 hv6 hv7 = omega arith
 low_bits_of : (v0 v1 v2 v3 v4 v5 v6 v7 : ℕ) → v3 < 256 → v4 < 256 → v5 < 256 → v6 < 256 → v7 < 256 → num v0 v1 v2 v3 v4 v5 v6 v7 % 2 ^ 43 ≡ v2 % 8 * 2 ^ 40 + v3 * 2 ^ 32 + v4 * 2 ^ 24 + v5 * 2 ^ 16 + v6 * 2 ^ 8 + v7
 low_bits_of v0 v1 v2 v3 v4 v5 v6 v7 hv3 hv4 hv5 hv6 hv7 = omega arith
 
-beside : (r t : ℕ) → t < 2 ^ 21 → bit_xor (r * 2 ^ 21) t ≡ r * 2 ^ 21 + t
+pub beside : (r t : ℕ) → t < 2 ^ 21 → bit_xor (r * 2 ^ 21) t ≡ r * 2 ^ 21 + t
 beside r t h =
     let plus : r * 2 ^ 21 ≡ r * 2 ^ 21 + 0 = omega arith in
     let none : t ≡ 0 * 2 ^ 21 + t = omega arith in

@@ -3,3 +3,4 @@ pub mod History
 pub mod Rules
 pub mod EightBytes
 pub mod Runs
+pub mod NextWord

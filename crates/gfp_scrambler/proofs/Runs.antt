@@ -61,6 +61,23 @@ pub last_eight : (s : List ℕ) (k r0 r last : ℕ) (sent s' : List ℕ) → Put
 last_eight s k r0 r last sent s' put was after =
     after ∙ ap (λ x. last_bits x sent) was ∙ sym (last_bits-append r0 (take k s) sent) ∙ ap (last_bits r0) (sym put.front)
 
+-- eight bytes are sent, and eight more
+pub sent_sixteen : (s : List ℕ) (k r last : ℕ) (sent next s' s'' : List ℕ) → Puts s k sent s' → Puts s' (k + 8) next s''
+    → sent ≡ scrambled r (take 8 (drop k s)) → next ≡ scrambled (last_bits r sent) (take 8 (drop (k + 8) s')) → last ≡ last_bits (last_bits r sent) next
+    → take (k + 16) s'' ++ scrambled last (drop (k + 16) s'') ≡ take k s ++ scrambled r (drop k s)
+sent_sixteen s k r last sent next s' s'' put more is then after =
+    let both : k + 16 ≡ k + 8 + 8 = omega arith in
+    ap (λ n. take n s'' ++ scrambled last (drop n s'')) both
+    ∙ sent_eight s' (k + 8) (last_bits r sent) last next s'' more then after
+    ∙ sent_eight s k r (last_bits r sent) sent s' put is refl
+
+pub last_sixteen : (s : List ℕ) (k r0 r last : ℕ) (sent next s' s'' : List ℕ) → Puts s k sent s' → Puts s' (k + 8) next s''
+    → r ≡ last_bits r0 (take k s) → last ≡ last_bits (last_bits r sent) next → last ≡ last_bits r0 (take (k + 16) s'')
+last_sixteen s k r0 r last sent next s' s'' put more was after =
+    let both : k + 16 ≡ k + 8 + 8 = omega arith in
+    last_eight s' (k + 8) r0 (last_bits r sent) last next s'' more (last_eight s k r0 r (last_bits r sent) sent s' put was refl) after
+    ∙ ap (λ n. last_bits r0 (take n s'')) (sym both)
+
 -- eight bytes came
 pub plain_eight : (s : List ℕ) (k r last : ℕ) (plain s' : List ℕ) → Puts s k plain s' → plain ≡ descrambled r (take 8 (drop k s)) → last ≡ last_bits r (take 8 (drop k s))
     → take (k + 8) s' ++ descrambled last (drop (k + 8) s') ≡ take k s ++ descrambled r (drop k s)

@@ -52,26 +52,48 @@ fn scramble_from(register: u64, bytes: &mut [u8]) -> u64
     ensures small { result < 2 ^ 43 }
     ensures came { AreBytes bytes.old }
 {
+    // The last 43 bits of it are the register.
     let mut last = register;
     let mut at = 0;
+    while bytes.len() - at >= 2 * WORD {
+        let word = word_at(bytes, at);
+        put_word(bytes, at, scramble_word(last, word));
+        let next = scramble_next(last, word, word_at(bytes, at + WORD));
+        put_word(bytes, at + WORD, next);
+        last = next;
+        at += 2 * WORD;
+    }
     while bytes.len() - at >= WORD {
         let sent = scramble_word(last, word_at(bytes, at));
         put_word(bytes, at, sent);
-        last = sent % REGISTER;
+        last = sent;
         at += WORD;
     }
-    scramble_bytes(last, &mut bytes[at..])
+    scramble_bytes(last % REGISTER, &mut bytes[at..])
 }
 
-// Eight bytes at once: the first 43 of their bits wait for the register alone, and the others for these.
+// Eight bytes at once, after bits of which `last` holds the last 43: the first 43 of their bits wait for these alone,
+// and the others for the first.
 #[inline]
-fn scramble_word(register: u64, word: u64) -> u64
-    requires { register < 2 ^ 43 }
-    ensures bytes { to_be_bytes w64 result ≡ scrambled register (to_be_bytes w64 word) }
-    ensures register { result % 2 ^ 43 ≡ last_bits register (to_be_bytes w64 result) }
+fn scramble_word(last: u64, word: u64) -> u64
+    ensures bytes { to_be_bytes w64 result ≡ scrambled (last % 2 ^ 43) (to_be_bytes w64 word) }
+    ensures register { result % 2 ^ 43 ≡ last_bits (last % 2 ^ 43) (to_be_bytes w64 result) }
 {
-    let keyed = word ^ (register << 21);
+    let keyed = word ^ (last << 21);
     keyed ^ (keyed >> 43)
+}
+
+// The eight bytes after those of `word`: they wait for `word` with its key, and not for what is sent for it. So two
+// words a turn take less time than two turns of one.
+#[inline]
+fn scramble_next(last: u64, word: u64, next: u64) -> u64
+    ensures bytes { let register = last_bits (last % 2 ^ 43) (scrambled (last % 2 ^ 43) (to_be_bytes w64 word)) in
+        to_be_bytes w64 result ≡ scrambled register (to_be_bytes w64 next) }
+    ensures register { let register = last_bits (last % 2 ^ 43) (scrambled (last % 2 ^ 43) (to_be_bytes w64 word)) in
+        result % 2 ^ 43 ≡ last_bits register (to_be_bytes w64 result) }
+{
+    let keyed = word ^ (last << 21);
+    (next ^ (next >> 43)) ^ ((keyed << 21) ^ (keyed >> 22))
 }
 
 // The bytes that are no whole word.

@@ -1,9 +1,9 @@
 use Rattle.std.proofs.Common.{arith}
-use Rattle.gfp_scrambler.proofs.EightBytes.{scrambled_word}
+use Rattle.gfp_scrambler.proofs.NextWord.{scrambled_after}
 use Rattle.gfp_scrambler.proofs.scrambler.scramble_word.Goals as goal
 
 pub returns-clause-bytes : goal.returns-clause-bytes
-returns-clause-bytes c = (scrambled_word c.args.register c.args.word c.requires (omega arith)).bytes
+returns-clause-bytes c = (scrambled_after c.args.last c.args.word (omega arith)).bytes
 
 pub returns-clause-register : goal.returns-clause-register
-returns-clause-register c = (scrambled_word c.args.register c.args.word c.requires (omega arith)).last
+returns-clause-register c = (scrambled_after c.args.last c.args.word (omega arith)).last
