@@ -1,12 +1,13 @@
 -- Digits that are decoded block by block.
-use Rattle.std.proofs.Common.{◌≡◌, ◌<◌, ◌≤◌, ◌+◌, ◌*◌, inl, inr, ℕ, zero, suc, List, [], ◌∷◌, length, slice_index, min, Some, None, Result, Ok, Err, arith, refl, ap, ◌∙◌}
+use Rattle.std.proofs.Common.{◌≡◌, ◌<◌, ◌≤◌, ◌+◌, ◌*◌, ◌⊎◌, inl, inr, ℕ, zero, suc, List, [], ◌∷◌, length, slice_index, replicate, min, Some, None, Result, Ok, Err, arith, refl, ap, ◌∙◌}
 use Rattle.std.proofs.lemmas.Bool.{cases_lt}
+use Rattle.std.proofs.lemmas.Simd.{get_or-replicate}
 use Rattle.hex.specs.Hex.{decode_of, decode_pairs, pair_value}
 use Rattle.hex.specs.declared.error.FromHexError.{FromHexError}
 use Rattle.hex.proofs.Pairs.{cons_byte, decode_pairs-ok_pair, decode_pairs-err_pair}
 use Rattle.hex.proofs.HexLemmas.{decode_of-even}
 use Rattle.packet_text.specs.PacketText.{decoded}
-use Rattle.packet_text.specs.Steps.DigitMarks.{IsPair, IsRefused, HasRefused}
+use Rattle.packet_text.specs.Steps.DigitMarks.{AllSmall, HasLarge, IsPair, IsRefused, HasRefused}
 
 -- the first pairs say these bytes
 pub record Read (digits bytes : List ℕ) (pairs : ℕ) : Type 0 where
@@ -15,8 +16,8 @@ pub record Read (digits bytes : List ℕ) (pairs : ℕ) : Type 0 where
 pub none_read : (digits bytes : List ℕ) → Read digits bytes 0
 none_read digits bytes = record { at = λ i h l. absurd (omega (arith, h)) }
 
--- a block more
-pub further : (digits old new : List ℕ) (block last : ℕ) → length new ≡ length old → last + 16 ≡ length old
+-- a block more is read
+further : (digits old new : List ℕ) (block last : ℕ) → length new ≡ length old → last + 16 ≡ length old
     → ((i : ℕ) → min (16 * block) last ≤ i → i < min (16 * block) last + 16 → IsPair (slice_index digits (2 * i)) (slice_index digits (2 * i + 1)) (slice_index new i))
     → ((i : ℕ) → i < min (16 * block) last → slice_index new i ≡ slice_index old i)
     → Read digits old (16 * block) → Read digits new (16 * (block + 1))
@@ -30,6 +31,31 @@ further digits old new block last same size here before h = record { at = at_pla
       | inl low ↦ rw (before i low) (h.at i (omega arith) (omega arith))
       | inr high ↦ here i high (omega arith)
     ]
+
+-- the first pairs say these bytes where what was seen of their digits is small; where it is not, a pair is refused
+pub record Seen (digits bytes lanes : List ℕ) (pairs : ℕ) : Type 0 where
+  pub read : AllSmall lanes → Read digits bytes pairs
+  pub refused : HasLarge lanes → HasRefused digits (length bytes)
+
+pub none_seen : (digits bytes : List ℕ) → Seen digits bytes (replicate 16 0) 0
+none_seen digits bytes = record {
+    read = λ all. none_read digits bytes;
+    refused = λ has. absurd (let l = has.large in omega (arith, l, get_or-replicate {A = ℕ} 16 has.lane 0 0 has.below)) }
+
+-- a block more is seen
+pub more_seen : (digits old new was now : List ℕ) (block last start : ℕ) → length new ≡ length old → last + 16 ≡ length old → start ≡ min (16 * block) last
+    → (AllSmall now → AllSmall was)
+    → (AllSmall now → (i : ℕ) → start ≤ i → i < start + 16 → IsPair (slice_index digits (2 * i)) (slice_index digits (2 * i + 1)) (slice_index new i))
+    → (HasLarge now → HasLarge was ⊎ HasRefused digits (start + 16))
+    → ((i : ℕ) → i < start → slice_index new i ≡ slice_index old i)
+    → Seen digits old was (16 * block) → Seen digits new now (16 * (block + 1))
+more_seen digits old new was now block last start same size is seen here none before h = record {
+    read = λ all. further digits old new block last same size (rw is at (here all)) (rw is at before) (h.read (seen all));
+    refused = λ has. by_place (none has) }
+  where
+    by_place : HasLarge was ⊎ HasRefused digits (start + 16) → HasRefused digits (length new)
+    by_place (inl has) = rw same (h.refused has)
+    by_place (inr r) = record { pair = r.pair; below = (let l = r.below in omega (arith, l, size, same, is)); refused = r.refused }
 
 two : (i : ℕ) → 2 * suc i ≡ suc (suc (2 * i))
 two i = omega arith
@@ -52,7 +78,7 @@ pairs_read place (a ∷ b ∷ digits) (x ∷ bytes) size h =
     decode_pairs-ok_pair place a b x digits first ∙ ap (cons_byte x) later
 
 -- every pair says its byte
-pub all_read : (digits bytes : List ℕ) (pairs : ℕ) → length digits ≡ 2 * length bytes → length bytes ≤ pairs → Read digits bytes pairs → decoded (decode_of digits) ≡ Some bytes
+all_read : (digits bytes : List ℕ) (pairs : ℕ) → length digits ≡ 2 * length bytes → length bytes ≤ pairs → Read digits bytes pairs → decoded (decode_of digits) ≡ Some bytes
 all_read digits bytes pairs size over h =
     ap decoded (decode_of-even digits (omega (arith, size)) ∙ pairs_read 0 digits bytes size (λ i l. h.at i (omega (arith, l, over)) l))
 
@@ -74,7 +100,15 @@ pairs_refused place (suc i) (a ∷ b ∷ digits) fits h =
     by_first (Err x) e later = ap decoded (decode_pairs-err_pair place a b x digits e)
 
 -- one is refused
-pub one_refused : (digits bytes : List ℕ) (pairs : ℕ) → length digits ≡ 2 * length bytes → pairs ≤ length bytes → HasRefused digits pairs → decoded (decode_of digits) ≡ None
+one_refused : (digits bytes : List ℕ) (pairs : ℕ) → length digits ≡ 2 * length bytes → pairs ≤ length bytes → HasRefused digits pairs → decoded (decode_of digits) ≡ None
 one_refused digits bytes pairs size within h =
     let l = h.below in
     ap decoded (decode_of-even digits (omega (arith, size))) ∙ pairs_refused 0 h.pair digits (omega arith) h.refused
+
+-- all pairs were seen, and no lane is large
+pub seen_all : (digits bytes lanes : List ℕ) (pairs : ℕ) → length digits ≡ 2 * length bytes → length bytes ≤ pairs → Seen digits bytes lanes pairs → AllSmall lanes → decoded (decode_of digits) ≡ Some bytes
+seen_all digits bytes lanes pairs size over h all = all_read digits bytes pairs size over (h.read all)
+
+-- all pairs were seen, and a lane is large
+pub seen_none : (digits bytes lanes : List ℕ) (pairs : ℕ) → length digits ≡ 2 * length bytes → Seen digits bytes lanes pairs → HasLarge lanes → decoded (decode_of digits) ≡ None
+seen_none digits bytes lanes pairs size h has = one_refused digits bytes (length bytes) size (omega arith) (h.refused has)

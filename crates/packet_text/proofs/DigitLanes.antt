@@ -1,13 +1,13 @@
 -- Hex digits in vectors of sixteen bytes.
-use Rattle.std.proofs.Common.{◌≡◌, ◌≢◌, ℕ, zero, suc, ◌+◌, ◌-◌, ◌*◌, ◌/◌, ◌%◌, ◌^◌, ◌<◌, ◌≤◌, ◌⊎◌, ◌==◌, inl, inr, Bool, true, false, cond, eqb, ltb, List, [], ◌∷◌, map, length, get_or, replicate, bit_and, bit_or, refl, sym, ap, ◌∙◌, arith, w8, Fits, ltb-true, ltb-false, eqb-true}
+use Rattle.std.proofs.Common.{◌≡◌, ◌≢◌, ℕ, zero, suc, ◌+◌, ◌-◌, ◌*◌, ◌/◌, ◌%◌, ◌^◌, ◌<◌, ◌≤◌, ◌⊎◌, ◌==◌, inl, inr, Bool, true, false, cond, eqb, ltb, nat_lt, List, [], ◌∷◌, map, length, get_or, replicate, bit_and, bit_or, refl, sym, ap, ◌∙◌, arith, w8, Fits, ltb-true, ltb-false, eqb-true}
 use Rattle.std.proofs.lemmas.Bool.{cases_lt, cases_eq, agree_below_at, eqb-false}
+use Rattle.std.proofs.lemmas.Bool.Decides.{nat_tests}
 use Rattle.std.proofs.lemmas.List.{ext_get_or, get_or-map, length-map}
-use Rattle.std.proofs.lemmas.Nat.{and_le_l, and_le_r}
-use Rattle.std.proofs.lemmas.Simd.{get_or-put_chunk_at, Each1-all, Each1-zip2, Each2-splat, swz_l, SwzOk, SwzOk-from_below, length-zip2, length-swz_l, get_or-swz_l_below, length-chunk, get_or-chunk, zip2_splat, tops_compared, map-map, zip2_of_maps, bitmask_splat}
-use lib.Lanes.{zip2, sel_l, mask_l, top, Each1, chunk, put_chunk}
-use Rattle.packet_text.specs.DigitMarks.{mark, MarksAll}
-use Rattle.packet_text.specs.Steps.DigitMarks.{marks_from, sixteen, bytes_from, byte_of, IsPair, HasLow, HasRefused}
-use Rattle.packet_text.proofs.Asking.{kept_digit, pair_read, pair_refused}
+use Rattle.std.proofs.lemmas.Nat.{and_le_r, le_or_l, le_or_r, or_lt}
+use Rattle.std.proofs.lemmas.Simd.{get_or-put_chunk_at, Each1-all, Each1-zip2, Each2-all, Each2-splat, swz_l, SwzOk, SwzOk-from_below, length-zip2, length-swz_l, get_or-swz_l_below, length-chunk, get_or-chunk, zip2_splat, tops_compared, zip2_of_maps, get_or_wider, get_or_narrower, get_or-zip2, get_or-replicate, below_from_Fits, splat_is_map, zip2-map, zip2_splat_left, mask_l-mod}
+use lib.Lanes.{zip2, sel_l, mask_l, top, Each1, chunk, put_chunk, number_l, digits_l}
+use Rattle.packet_text.specs.Steps.DigitMarks.{sixteen, bytes_from, byte_of, pair_lane, byte_less, smaller, worth, numeral_worth, letter_worth, AllSmall, HasLarge, IsPair, HasRefused}
+use Rattle.packet_text.proofs.Asking.{pair_read, pair_refused}
 
 pub get_sixteen : (f : ℕ → ℕ) (i : ℕ) → i < 16 → get_or (sixteen f) i 0 ≡ f i
 get_sixteen f zero h = refl
@@ -36,14 +36,6 @@ sixteen_loaded row at h =
     let below : i < 16 = omega arith in
     get_or-chunk at 16 row i 0 below ∙ sym (get_sixteen (bytes_from row at) i below))
 
--- a row of what is kept
-pub row_loaded : (table loaded : List ℕ) (first : ℕ) → first + 16 ≤ 256 → MarksAll table → loaded ≡ sixteen (bytes_from table first) → loaded ≡ marks_from first
-unfolding bytes_from marks_from
-row_loaded table loaded first room kept is =
-    is ∙ ext_get_or 0 (sixteen (bytes_from table first)) (sixteen (λ i. mark (first + i))) refl (λ i l.
-    let below : i < 16 = l in
-    get_sixteen (bytes_from table first) i below ∙ kept.at (first + i) (omega (arith, room, below)) ∙ sym (get_sixteen (λ i. mark (first + i)) i below))
-
 -- ---- a row by the low four bits
 
 pub low_ok : (v : List ℕ) → length v ≡ 16 → SwzOk w8 16 16 0 (zip2 bit_and v (replicate 16 15))
@@ -67,65 +59,139 @@ looked_up row v size =
     get_or-swz_l_below w8 16 row 0 js i (omega arith) below
     ∙ ap (λ k. get_or row k 0) at ∙ sym (get_or-map (λ x. get_or row (g x) 0) v i 0 0 within))
 
--- ---- where the high bits are those
-
-sel_map : (p : ℕ → Bool) (f : ℕ → ℕ) (v : List ℕ) (n : ℕ) → length v ≡ n → sel_l (map p v) (map f v) (replicate n 0) ≡ map (λ x. cond (p x) (f x) 0) v
-sel_map p f [] n h = refl
-sel_map p f (x ∷ v) zero h = absurd (omega arith)
-sel_map p f (x ∷ v) (suc n) h = ap (λ l. cond (p x) (f x) 0 ∷ l) (sel_map p f v n (omega arith))
-
-pub selected : (v kept : List ℕ) (mask high : ℕ) (f : ℕ → ℕ) → length v ≡ 16 → kept ≡ map f v
-    → sel_l (map (top 7) (zip2 (λ a b. cond (eqb a b) 255 0) (zip2 bit_and v (replicate 16 mask)) (replicate 16 high))) kept (replicate 16 0)
-    ≡ map (λ x. cond (eqb (bit_and x mask) high) (f x) 0) v
-selected v kept mask high f size is =
-    let masked = zip2_splat bit_and v 16 mask size in
-    let long : length (map (λ x. bit_and x mask) v) ≡ 16 = length-map v (λ x. bit_and x mask) ∙ size in
-    rw (masked, is, tops_compared w8 eqb (map (λ x. bit_and x mask) v) (replicate 16 high), zip2_splat eqb (map (λ x. bit_and x mask) v) 16 high long, map-map (λ x. eqb x high) (λ x. bit_and x mask) v)
-    (sel_map (λ x. eqb (bit_and x mask) high) f v 16 size)
-
--- ---- both rows
-
-abbrev by_rows : ℕ → ℕ
-by_rows x = bit_or (cond (eqb (bit_and x 240) 48) (get_or (marks_from 48) (bit_and x 15) 0) 0) (cond (eqb (bit_and x 208) 64) (get_or (marks_from 96) (bit_and x 15) 0) 0)
-
-rows_are : (x : ℕ) → x < 256 → by_rows x ≡ mark x
-unfolding mark marks_from
-rows_are x h = eqb-true _ _ (agree_below_at (λ x. by_rows x == mark x) (λ x. true) 256 x refl h)
+-- ---- what bytes are worth
 
 map_same : (f g : ℕ → ℕ) (v : List ℕ) → Each1 (Fits w8) v → ((x : ℕ) → x < 256 → f x ≡ g x) → map f v ≡ map g v
 map_same f g [] fits h = refl
 map_same f g (x ∷ v) fits h = λ k. h x fits.0.fits k ∷ map_same f g v fits.1 h k
 
-pub marks_are : (v a b numerals letters : List ℕ) → Each1 (Fits w8) v → numerals ≡ marks_from 48 → letters ≡ marks_from 96
-    → a ≡ map (λ x. cond (eqb (bit_and x 240) 48) (get_or numerals (bit_and x 15) 0) 0) v
-    → b ≡ map (λ x. cond (eqb (bit_and x 208) 64) (get_or letters (bit_and x 15) 0) 0) v
-    → zip2 bit_or a b ≡ map mark v
-marks_are v a b numerals letters fits en el ea eb =
-    let first = rw en at ea in
-    let second = rw el at eb in
-    zip2_of_maps bit_or _ _ v first second ∙ map_same by_rows mark v fits rows_are
+sel_map : (p : ℕ → Bool) (f g : ℕ → ℕ) (v : List ℕ) → sel_l (map p v) (map f v) (map g v) ≡ map (λ x. cond (p x) (f x) (g x)) v
+sel_map p f g [] = refl
+sel_map p f g (x ∷ v) = ap (λ l. cond (p x) (f x) (g x) ∷ l) (sel_map p f g v)
+
+-- lanes that are chosen by which of two is less
+chosen : (v a b c d : List ℕ) (f g h k : ℕ → ℕ) → a ≡ map f v → b ≡ map g v → c ≡ map h v → d ≡ map k v
+    → sel_l (map (top 7) (zip2 (λ x y. cond (ltb x y) 255 0) a b)) c d ≡ map (λ x. cond (ltb (f x) (g x)) (h x) (k x)) v
+chosen v a b c d f g h k ea eb ec ed =
+    rw (ea, eb, ec, ed, tops_compared w8 ltb (map f v) (map g v), zip2-map ltb f g v) (sel_map (λ x. ltb (f x) (g x)) h k v)
+
+-- by the steps of `numerals`
+pub numerals_are : (v : List ℕ) → length v ≡ 16
+    → zip2 byte_less (zip2 byte_less (sel_l (map (top 7) (zip2 (λ x y. cond (ltb x y) 255 0) (zip2 (λ a b. (a + b) % 256) v (replicate 16 198)) (replicate 16 6)))
+    (replicate 16 6) (zip2 (λ a b. (a + b) % 256) v (replicate 16 198))) (replicate 16 6)) (replicate 16 240) ≡ map numeral_worth v
+numerals_are v long =
+    let added = zip2_splat (λ a b. (a + b) % 256) v 16 198 long in
+    let six = splat_is_map v 16 6 long in
+    let over = chosen v _ _ _ _ _ _ _ _ added six six added in
+    zip2_of_maps byte_less _ _ v (zip2_of_maps byte_less _ _ v over six) (splat_is_map v 16 240 long)
+
+-- by the steps of `letters`
+pub letters_are : (v : List ℕ) → length v ≡ 16
+    → zip2 (λ a b. (a + b) % 256) (zip2 bit_and (zip2 byte_less v (replicate 16 65)) (replicate 16 223)) (replicate 16 10) ≡ map letter_worth v
+letters_are v long =
+    let from_a = zip2_splat byte_less v 16 65 long in
+    let either_case = zip2_of_maps bit_and _ _ v from_a (splat_is_map v 16 223 long) in
+    zip2_of_maps (λ a b. (a + b) % 256) _ _ v either_case (splat_is_map v 16 10 long)
+
+worth_same : (x : ℕ) → x < 256 → smaller (numeral_worth x) (letter_worth x) ≡ worth x
+unfolding worth
+worth_same x h = (let t : nat_lt x 256 ≡ true = grind (arith, nat_tests) in rw t refl)
+
+pub worths : (v a b : List ℕ) → Each1 (Fits w8) v → a ≡ map numeral_worth v → b ≡ map letter_worth v
+    → sel_l (map (top 7) (zip2 (λ x y. cond (ltb x y) 255 0) a b)) a b ≡ map worth v
+worths v a b fits ea eb =
+    chosen v a b a b numeral_worth letter_worth numeral_worth letter_worth ea eb ea eb
+    ∙ map_same (λ x. smaller (numeral_worth x) (letter_worth x)) worth v fits worth_same
+
+-- ---- pairs of values
+
+chunk_pair : (f : ℕ → ℕ) (j : ℕ) → j < 8 → chunk (2 * j) 2 (sixteen f) ≡ f (2 * j) ∷ f (2 * j + 1) ∷ []
+chunk_pair f zero h = refl
+chunk_pair f (suc zero) h = refl
+chunk_pair f (suc (suc zero)) h = refl
+chunk_pair f (suc (suc (suc zero))) h = refl
+chunk_pair f (suc (suc (suc (suc zero)))) h = refl
+chunk_pair f (suc (suc (suc (suc (suc zero))))) h = refl
+chunk_pair f (suc (suc (suc (suc (suc (suc zero)))))) h = refl
+chunk_pair f (suc (suc (suc (suc (suc (suc (suc zero))))))) h = refl
+chunk_pair f (suc (suc (suc (suc (suc (suc (suc (suc j)))))))) h = absurd (omega arith)
+
+number_pair : (a b : ℕ) → number_l 256 (a ∷ b ∷ []) ≡ a + 256 * b
+number_pair a b = omega arith
+
+-- the values of pairs, multiplied
+abbrev multiplied : List ℕ → List ℕ
+multiplied values = zip2 (λ a b. a * b % 65536) (digits_l 65536 8 (number_l 256 values)) (replicate 8 4097)
+
+multiplied_at : (values : List ℕ) (f : ℕ → ℕ) (j : ℕ) → Each1 (Fits w8) values → values ≡ sixteen f → j < 8 → get_or (multiplied values) j 0 ≡ (f (2 * j) + 256 * f (2 * j + 1)) * 4097 % 65536
+multiplied_at values f j fits is h =
+    let words = digits_l 65536 8 (number_l 256 values) in
+    let word : get_or words j 0 ≡ f (2 * j) + 256 * f (2 * j + 1) =
+    get_or_wider 256 2 65536 8 values j refl (below_from_Fits w8 values fits) h
+    ∙ ap (λ v. number_l 256 (chunk (2 * j) 2 v)) is
+    ∙ ap (number_l 256) (chunk_pair f j h)
+    ∙ number_pair (f (2 * j)) (f (2 * j + 1)) in
+    get_or-zip2 (λ a b. a * b % 65536) words (replicate 8 4097) j 0 0 0 h h
+    ∙ ap (λ n. n * get_or (replicate 8 4097) j 0 % 65536) word
+    ∙ ap (λ n. (f (2 * j) + 256 * f (2 * j + 1)) * n % 65536) (get_or-replicate 8 j 4097 0 h)
+
+pub pairs_multiplied : (values : List ℕ) (f : ℕ → ℕ) → Each1 (Fits w8) values → values ≡ sixteen f
+    → digits_l 256 16 (number_l 65536 (multiplied values)) ≡ sixteen (λ i. pair_lane (f (2 * (i / 2))) (f (2 * (i / 2) + 1)) (i % 2))
+pairs_multiplied values f fits is = ext_get_or 0 _ _ refl at_lane
+  where
+    lane : ℕ → ℕ
+    lane i = pair_lane (f (2 * (i / 2))) (f (2 * (i / 2) + 1)) (i % 2)
+
+    at_lane : (i : ℕ) → i < 16 → get_or (digits_l 256 16 (number_l 65536 (multiplied values))) i 0 ≡ get_or (sixteen lane) i 0
+    at_lane i h =
+        let j = i / 2 in
+        let odd = i % 2 in
+        let place : 2 * j + odd ≡ i = omega arith in
+        let below : j < 8 = omega (arith, h) in
+        let fit = Each1-zip2 (λ a b. a * b % 65536) (λ x. x < 65536) (digits_l 65536 8 (number_l 256 values)) (replicate 8 4097) (Each2-all (λ a b. a * b % 65536 < 65536) (λ a b. omega arith) (digits_l 65536 8 (number_l 256 values)) (replicate 8 4097)) in
+        ap (λ n. get_or (digits_l 256 16 (number_l 65536 (multiplied values))) n 0) (sym place)
+        ∙ get_or_narrower 65536 2 256 16 (multiplied values) j odd refl fit (omega arith) (omega (arith, place, h))
+        ∙ ap (λ n. n / 256 ^ odd % 256) (multiplied_at values f j fits is below)
+        ∙ sym (get_sixteen lane i h)
+
+joined_lane : (high low : ℕ) → high < 16 → low < 16 → pair_lane high low 1 ≡ byte_of high low
+joined_lane v w f g =
+    let at : pair_lane ((16 * v + w) / 16) ((16 * v + w) % 16) 1 ≡ byte_of ((16 * v + w) / 16) ((16 * v + w) % 16) =
+    eqb-true _ _ (agree_below_at (λ n. pair_lane (n / 16) (n % 16) 1 == byte_of (n / 16) (n % 16)) (λ n. true) 256 (16 * v + w) refl (omega (arith, f, g))) in
+    let high : (16 * v + w) / 16 ≡ v = omega (arith, g) in
+    let low : (16 * v + w) % 16 ≡ w = omega (arith, g) in
+    rw (high, low) at at
+
+pub pairs_joined : (f : ℕ → ℕ) → ((i : ℕ) → i < 32 → f i < 16)
+    → sixteen (λ i. pair_lane (f (2 * i)) (f (2 * i + 1)) 1) ≡ sixteen (λ i. byte_of (f (2 * i)) (f (2 * i + 1)))
+pairs_joined f small =
+    ext_get_or 0 (sixteen (λ i. pair_lane (f (2 * i)) (f (2 * i + 1)) 1)) (sixteen (λ i. byte_of (f (2 * i)) (f (2 * i + 1)))) refl (λ i l.
+    let below : i < 16 = l in
+    get_sixteen (λ i. pair_lane (f (2 * i)) (f (2 * i + 1)) 1) i below
+    ∙ joined_lane (f (2 * i)) (f (2 * i + 1)) (small (2 * i) (omega (arith, below))) (small (2 * i + 1) (omega (arith, below)))
+    ∙ sym (get_sixteen (λ i. byte_of (f (2 * i)) (f (2 * i + 1))) i below))
 
 -- ---- a block
 
 same_lanes : (f g : ℕ → ℕ) → ((i : ℕ) → f i ≡ g i) → sixteen f ≡ sixteen g
 same_lanes f g h = λ k. sixteen (λ i. h i k)
 
--- what is kept of the digits from a place on
-abbrev pub marks_at : List ℕ → ℕ → ℕ → ℕ
-marks_at digits at i = mark (bytes_from digits at i)
+-- what the digits from a place on are worth
+abbrev pub worths_at : List ℕ → ℕ → ℕ → ℕ
+worths_at digits at i = worth (bytes_from digits at i)
 
-pub first_marks : (digits loaded v : List ℕ) (at : ℕ) → loaded ≡ sixteen (bytes_from digits at) → v ≡ map mark loaded → v ≡ sixteen (marks_at digits at)
-first_marks digits loaded v at e h = h ∙ ap (map mark) e
+pub first_worths : (digits loaded v : List ℕ) (at : ℕ) → loaded ≡ sixteen (bytes_from digits at) → v ≡ map worth loaded → v ≡ sixteen (worths_at digits at)
+first_worths digits loaded v at e h = h ∙ ap (map worth) e
 
-pub second_marks : (digits loaded v : List ℕ) (at : ℕ) → loaded ≡ sixteen (bytes_from digits (at + 16)) → v ≡ map mark loaded → v ≡ sixteen (λ i. marks_at digits at (16 + i))
+pub second_worths : (digits loaded v : List ℕ) (at : ℕ) → loaded ≡ sixteen (bytes_from digits (at + 16)) → v ≡ map worth loaded → v ≡ sixteen (λ i. worths_at digits at (16 + i))
 unfolding bytes_from
-second_marks digits loaded v at e h =
-    h ∙ ap (map mark) e ∙ same_lanes _ _ (λ i. ap (λ n. mark (get_or digits n 0)) (let s : at + 16 + i ≡ at + (16 + i) = omega arith in s))
+second_worths digits loaded v at e h =
+    h ∙ ap (map worth) e ∙ same_lanes _ _ (λ i. ap (λ n. worth (get_or digits n 0)) (let s : at + 16 + i ≡ at + (16 + i) = omega arith in s))
 
 -- the bytes of a block's pairs
 pub block_here : (digits bytes joined : List ℕ) (at : ℕ) → at + 16 ≤ length bytes
-    → joined ≡ sixteen (λ i. byte_of (marks_at digits (2 * at) (2 * i)) (marks_at digits (2 * at) (2 * i + 1)))
-    → ((i : ℕ) → i < 32 → 128 ≤ marks_at digits (2 * at) i)
+    → joined ≡ sixteen (λ i. byte_of (worths_at digits (2 * at) (2 * i)) (worths_at digits (2 * at) (2 * i + 1)))
+    → ((i : ℕ) → i < 32 → worths_at digits (2 * at) i < 16)
     → (i : ℕ) → at ≤ i → i < at + 16 → IsPair (get_or digits (2 * i) 0) (get_or digits (2 * i + 1) 0) (get_or (put_chunk at bytes joined) i 0)
 unfolding bytes_from
 block_here digits bytes joined at room is digit i from to =
@@ -135,31 +201,90 @@ block_here digits bytes joined at room is digit i from to =
     let place : i ≡ at + j = omega (arith, from) in
     let high : 2 * at + 2 * j ≡ 2 * i = omega (arith, from) in
     let low : 2 * at + (2 * j + 1) ≡ 2 * i + 1 = omega (arith, from) in
-    let stored : get_or (put_chunk at bytes joined) i 0 ≡ byte_of (mark (get_or digits (2 * at + 2 * j) 0)) (mark (get_or digits (2 * at + (2 * j + 1)) 0)) =
+    let stored : get_or (put_chunk at bytes joined) i 0 ≡ byte_of (worth (get_or digits (2 * at + 2 * j) 0)) (worth (get_or digits (2 * at + (2 * j + 1)) 0)) =
     ap (λ n. get_or (put_chunk at bytes joined) n 0) place
     ∙ get_or-put_chunk_at at bytes joined j 0 (omega (arith, long, below)) (omega (arith, long, room))
     ∙ ap (λ v. get_or v j 0) is
-    ∙ get_sixteen (λ i. byte_of (marks_at digits (2 * at) (2 * i)) (marks_at digits (2 * at) (2 * i + 1))) j below in
-    let h : 128 ≤ mark (get_or digits (2 * at + 2 * j) 0) = digit (2 * j) (omega (arith, below)) in
-    let l : 128 ≤ mark (get_or digits (2 * at + (2 * j + 1)) 0) = digit (2 * j + 1) (omega (arith, below)) in
+    ∙ get_sixteen (λ i. byte_of (worths_at digits (2 * at) (2 * i)) (worths_at digits (2 * at) (2 * i + 1))) j below in
+    let h : worth (get_or digits (2 * at + 2 * j) 0) < 16 = digit (2 * j) (omega (arith, below)) in
+    let l : worth (get_or digits (2 * at + (2 * j + 1)) 0) < 16 = digit (2 * j + 1) (omega (arith, below)) in
     rw (stored, ← low, ← high) (pair_read _ _ h l)
 
 -- a pair of a block that is refused
-pub block_none : (digits : List ℕ) (at : ℕ) → HasLow (marks_at digits (2 * at)) → HasRefused digits (at + 16)
+block_none : (digits : List ℕ) (at lane : ℕ) → lane < 32 → 16 ≤ worths_at digits (2 * at) lane → HasRefused digits (at + 16)
 unfolding bytes_from
-block_none digits at h = record { pair = at + lane / 2; below = inside; refused = pair_refused _ _ (by_half (cases_eq (lane % 2) 0)) }
+block_none digits at lane below large = record { pair = at + lane / 2; below = omega (arith, below); refused = pair_refused _ _ (by_half (cases_eq (lane % 2) 0)) }
+  where
+    by_half : (lane % 2 ≡ 0) ⊎ (lane % 2 ≢ 0) → (16 ≤ worth (get_or digits (2 * (at + lane / 2)) 0)) ⊎ (16 ≤ worth (get_or digits (2 * (at + lane / 2) + 1) 0))
+    by_half (inl even) = inl (let e : 2 * (at + lane / 2) ≡ 2 * at + lane = omega (arith, even) in rw e large)
+    by_half (inr odd) = inr (let e : 2 * (at + lane / 2) + 1 ≡ 2 * at + lane = omega (arith, odd) in rw e large)
+
+-- ---- what was seen
+
+-- what was seen, with the values of a block
+abbrev pub with_block : (seen first second : List ℕ) → List ℕ
+with_block seen first second = zip2 bit_or (zip2 bit_or seen first) second
+
+lane_with : (seen first second : List ℕ) (f : ℕ → ℕ) (i : ℕ) → length seen ≡ 16 → first ≡ sixteen f → second ≡ sixteen (λ i. f (16 + i)) → i < 16
+    → get_or (with_block seen first second) i 0 ≡ bit_or (bit_or (get_or seen i 0) (f i)) (f (16 + i))
+lane_with seen first second f i long ef es h =
+    let one : length first ≡ 16 = ap length ef in
+    let two : length second ≡ 16 = ap length es in
+    let both : length (zip2 bit_or seen first) ≡ 16 = length-zip2 bit_or seen first (long ∙ sym one) ∙ long in
+    get_or-zip2 bit_or (zip2 bit_or seen first) second i 0 0 0 (omega (arith, both, h)) (omega (arith, two, h))
+    ∙ ap (λ n. bit_or n (get_or second i 0)) (get_or-zip2 bit_or seen first i 0 0 0 (omega (arith, long, h)) (omega (arith, one, h)))
+    ∙ ap (λ v. bit_or (bit_or (get_or seen i 0) (get_or v i 0)) (get_or second i 0)) ef
+    ∙ ap (λ v. bit_or (bit_or (get_or seen i 0) (get_or (sixteen f) i 0)) (get_or v i 0)) es
+    ∙ ap (λ n. bit_or (bit_or (get_or seen i 0) n) (get_or (sixteen (λ i. f (16 + i))) i 0)) (get_sixteen f i h)
+    ∙ ap (λ n. bit_or (bit_or (get_or seen i 0) (f i)) n) (get_sixteen (λ i. f (16 + i)) i h)
+
+pub seen_small : (seen first second : List ℕ) (f : ℕ → ℕ) → length seen ≡ 16 → first ≡ sixteen f → second ≡ sixteen (λ i. f (16 + i))
+    → AllSmall (with_block seen first second) → AllSmall seen
+seen_small seen first second f long ef es all = record { at = λ i h.
+    let is = lane_with seen first second f i long ef es h in
+    let a = all.at i h in
+    omega (arith, is, a, le_or_l (get_or seen i 0) (f i), le_or_l (bit_or (get_or seen i 0) (f i)) (f (16 + i))) }
+
+pub values_small : (seen first second : List ℕ) (f : ℕ → ℕ) → length seen ≡ 16 → first ≡ sixteen f → second ≡ sixteen (λ i. f (16 + i))
+    → AllSmall (with_block seen first second) → (i : ℕ) → i < 32 → f i < 16
+values_small seen first second f long ef es all i h = elim (cases_lt i 16) [
+  | inl l ↦ (
+      let is = lane_with seen first second f i long ef es l in
+      let a = all.at i l in
+      omega (arith, is, a, le_or_r (get_or seen i 0) (f i), le_or_l (bit_or (get_or seen i 0) (f i)) (f (16 + i))))
+  | inr k ↦ (
+      let j = i - 16 in
+      let below : j < 16 = omega (arith, h, k) in
+      let at : 16 + j ≡ i = omega (arith, k) in
+      let is = lane_with seen first second f j long ef es below in
+      let a = all.at j below in
+      let b : f (16 + j) < 16 = omega (arith, is, a, le_or_r (bit_or (get_or seen j 0) (f j)) (f (16 + j))) in
+      rw at at b)
+]
+
+pub seen_large : (digits seen first second : List ℕ) (at : ℕ) → length seen ≡ 16 → first ≡ sixteen (worths_at digits (2 * at)) → second ≡ sixteen (λ i. worths_at digits (2 * at) (16 + i))
+    → HasLarge (with_block seen first second) → HasLarge seen ⊎ HasRefused digits (at + 16)
+seen_large digits seen first second at long ef es has = elim (cases_lt (get_or seen lane 0) 16) [
+  | inl a ↦ elim (cases_lt (f lane) 16) [
+    | inl b ↦ elim (cases_lt (f (16 + lane)) 16) [
+      | inl c ↦ absurd (
+          let is = lane_with seen first second f lane long ef es has.below in
+          let l = has.large in
+          omega (arith, is, l, or_lt 4 (bit_or (get_or seen lane 0) (f lane)) (f (16 + lane)) (or_lt 4 (get_or seen lane 0) (f lane) a b) c))
+      | inr c ↦ inr (block_none digits at (16 + lane) (let l = has.below in omega (arith, l)) c)
+    ]
+    | inr b ↦ inr (block_none digits at lane (let l = has.below in omega (arith, l)) b)
+  ]
+  | inr a ↦ inl (record { lane = lane; below = has.below; large = a })
+]
   where
     lane : ℕ
-    lane = h.lane
+    lane = has.lane
 
-    inside : at + lane / 2 < at + 16
-    inside = let l = h.below in omega arith
+    f : ℕ → ℕ
+    f = worths_at digits (2 * at)
 
-    by_half : (lane % 2 ≡ 0) ⊎ (lane % 2 ≢ 0) → (mark (get_or digits (2 * (at + lane / 2)) 0) < 128) ⊎ (mark (get_or digits (2 * (at + lane / 2) + 1) 0) < 128)
-    by_half (inl even) = inl (let e : 2 * (at + lane / 2) ≡ 2 * at + lane = omega (arith, even) in rw e h.low)
-    by_half (inr odd) = inr (let e : 2 * (at + lane / 2) + 1 ≡ 2 * at + lane = omega (arith, odd) in rw e h.low)
-
--- ---- whether all are digits
+-- ---- whether all are small
 
 none_pass : (p : ℕ → Bool) (xs : List ℕ) → mask_l (map p xs) ≡ 0 → (i : ℕ) → i < length xs → p (get_or xs i 0) ≡ false
 none_pass p [] e i h = absurd (omega arith)
@@ -178,65 +303,17 @@ some_pass p (x ∷ xs) e = go (p x) refl (some_pass p xs)
     go true q later = (0, omega arith, q)
     go false q later = let r = later (λ z. e (rw (q, z) refl)) in (suc r.0, (let l = r.1 in omega (arith, l)), r.2)
 
--- the lanes that are below 128, as bits
-abbrev low_lanes : List ℕ → ℕ
-low_lanes v = mask_l (map (top 7) (zip2 (λ a b. cond (ltb a b) 255 0) v (replicate 16 128))) % 2 ^ 64
+over_lanes : (v : List ℕ) → length v ≡ 16 → mask_l (map (top 7) (zip2 (λ a b. cond (ltb a b) 255 0) (replicate 16 15) v)) % 2 ^ 64 ≡ mask_l (map (λ x. ltb 15 x) v)
+over_lanes v long =
+    ap (λ ms. mask_l ms % 2 ^ 64) (tops_compared w8 ltb (replicate 16 15) v ∙ zip2_splat_left ltb 15 16 v long)
+    ∙ mask_l-mod (map (λ x. ltb 15 x) v) 64 (omega (arith, length-map v (λ x. ltb 15 x), long))
 
-both_marks : (first second : List ℕ) (g : ℕ → ℕ) → first ≡ sixteen (λ i. mark (g i)) → second ≡ sixteen (λ i. mark (g (16 + i)))
-    → zip2 bit_and first second ≡ sixteen (λ i. bit_and (mark (g i)) (mark (g (16 + i))))
-both_marks first second g ef es = rw (ef, es) refl
+pub none_over : (v : List ℕ) → length v ≡ 16 → eqb (mask_l (map (top 7) (zip2 (λ a b. cond (ltb a b) 255 0) (replicate 16 15) v)) % 2 ^ 64) 0 ≡ true → AllSmall v
+none_over v long e = record { at = λ i h.
+    let passed = none_pass (λ x. ltb 15 x) v (sym (over_lanes v long) ∙ eqb-true _ _ e) i (omega (arith, long, h)) in
+    omega (arith, ltb-false _ _ passed) }
 
-pub marked_all : (first second : List ℕ) (g : ℕ → ℕ) → first ≡ sixteen (λ i. mark (g i)) → second ≡ sixteen (λ i. mark (g (16 + i)))
-    → eqb (low_lanes (zip2 bit_and first second)) 0 ≡ true → (i : ℕ) → i < 32 → 128 ≤ mark (g i)
-marked_all first second g ef es e i h = elim (cases_lt i 16) [
-  | inl l ↦ let a = each i l in omega (arith, a, and_le_l (mark (g i)) (mark (g (16 + i))))
-  | inr k ↦ (
-      let j = i - 16 in
-      let at : 16 + j ≡ i = omega (arith, k) in
-      let a = each j (omega (arith, h, k)) in
-      let b : 128 ≤ mark (g (16 + j)) = omega (arith, a, and_le_r (mark (g j)) (mark (g (16 + j)))) in
-      rw at at b)
-]
-  where
-    both : zip2 bit_and first second ≡ sixteen (λ i. bit_and (mark (g i)) (mark (g (16 + i))))
-    both = both_marks first second g ef es
-
-    each : (j : ℕ) → j < 16 → 128 ≤ bit_and (mark (g j)) (mark (g (16 + j)))
-    each j l =
-        let long : length (zip2 bit_and first second) ≡ 16 = ap length both in
-        let zero_mask = sym (bitmask_splat w8 ltb (zip2 bit_and first second) 16 128 long (omega arith)) ∙ eqb-true _ _ e in
-        let passed : ltb (get_or (zip2 bit_and first second) j 0) 128 ≡ false = none_pass (λ x. ltb x 128) (zip2 bit_and first second) zero_mask j (omega (arith, long, l)) in
-        let is : get_or (zip2 bit_and first second) j 0 ≡ bit_and (mark (g j)) (mark (g (16 + j))) = ap (λ v. get_or v j 0) both ∙ get_sixteen (λ i. bit_and (mark (g i)) (mark (g (16 + i)))) j l in
-        omega (arith, ltb-false _ _ passed, is)
-
-marks_and : (v w : ℕ) → v < 16 → w < 16 → 128 ≤ bit_and (128 + v) (128 + w)
-marks_and v w f g =
-    let high : (16 * v + w) / 16 ≡ v = omega (arith, g) in
-    let low : (16 * v + w) % 16 ≡ w = omega (arith, g) in
-    let at : bit_and (128 + (16 * v + w) / 16) (128 + (16 * v + w) % 16) / 128 ≡ 1 =
-    eqb-true _ _ (agree_below_at (λ n. bit_and (128 + n / 16) (128 + n % 16) / 128 == 1) (λ n. true) 256 (16 * v + w) refl (omega (arith, f, g))) in
-    let top' : bit_and (128 + v) (128 + w) / 128 ≡ 1 = rw (high, low) at at in
-    omega (arith, top')
-
-low_pair : (g : ℕ → ℕ) (i : ℕ) → i < 16 → bit_and (mark (g i)) (mark (g (16 + i))) < 128 → HasLow (λ i. mark (g i))
-low_pair g i l h = elim (cases_lt (mark (g i)) 128) [
-  | inl a ↦ record { lane = i; below = omega (arith, l); low = a }
-  | inr a ↦ elim (cases_lt (mark (g (16 + i))) 128) [
-    | inl b ↦ record { lane = 16 + i; below = omega (arith, l); low = b }
-    | inr b ↦ absurd (
-        let p = kept_digit (g i) a in
-        let q = kept_digit (g (16 + i)) b in
-        let both : 128 ≤ bit_and (mark (g i)) (mark (g (16 + i))) = rw (p.3, q.3) (marks_and p.0 q.0 p.2 q.2) in
-        omega (arith, both, h))
-  ]
-]
-
-pub marked_none : (first second : List ℕ) (g : ℕ → ℕ) → first ≡ sixteen (λ i. mark (g i)) → second ≡ sixteen (λ i. mark (g (16 + i)))
-    → eqb (low_lanes (zip2 bit_and first second)) 0 ≡ false → HasLow (λ i. mark (g i))
-marked_none first second g ef es e =
-    let both = both_marks first second g ef es in
-    let long : length (zip2 bit_and first second) ≡ 16 = ap length both in
-    let r = some_pass (λ x. ltb x 128) (zip2 bit_and first second) (λ z. eqb-false _ _ e (bitmask_splat w8 ltb (zip2 bit_and first second) 16 128 long (omega arith) ∙ z)) in
-    let l : r.0 < 16 = (let b = r.1 in omega (arith, b, long)) in
-    let is : get_or (zip2 bit_and first second) r.0 0 ≡ bit_and (mark (g r.0)) (mark (g (16 + r.0))) = ap (λ v. get_or v r.0 0) both ∙ get_sixteen (λ i. bit_and (mark (g i)) (mark (g (16 + i)))) r.0 l in
-    low_pair g r.0 l (omega (arith, ltb-true _ _ r.2, is))
+pub one_over : (v : List ℕ) → length v ≡ 16 → eqb (mask_l (map (top 7) (zip2 (λ a b. cond (ltb a b) 255 0) (replicate 16 15) v)) % 2 ^ 64) 0 ≡ false → HasLarge v
+one_over v long e =
+    let r = some_pass (λ x. ltb 15 x) v (λ z. eqb-false _ _ e (over_lanes v long ∙ z)) in
+    record { lane = r.0; below = (let b = r.1 in omega (arith, b, long)); large = (let l = ltb-true _ _ r.2 in omega (arith, l)) }

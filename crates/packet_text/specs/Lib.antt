@@ -1,6 +1,5 @@
 pub mod TextLines
 pub mod PacketText
-pub mod DigitMarks
 pub mod Cutting
 pub mod LinesStand
 pub mod Laws

@@ -1,9 +1,7 @@
--- Steps of `all_marked`, `decode_block` and others: what private contracts alone cite, beside the definitions of
--- `DigitMarks`.
-use Rattle.std.specs.Prelude.{ℕ, ◌≡◌, ◌<◌, ◌+◌, ◌*◌, ◌%◌, List, [], ◌∷◌, Ok, Err, slice_index, bit_and, bit_or}
+-- Steps of `values`, `decode_block` and others: what private contracts alone cite.
+use Rattle.std.specs.Prelude.{ℕ, ◌≡◌, ◌<◌, ◌≤◌, ◌+◌, ◌-◌, ◌*◌, ◌/◌, ◌%◌, ◌^◌, nat_lt, if◌then◌else◌, List, [], ◌∷◌, Ok, Err, slice_index, bit_and, bit_or}
 use Rattle.hex.specs.Hex.{pair_value}
 use Rattle.hex.specs.declared.error.FromHexError.{FromHexError}
-use Rattle.packet_text.specs.DigitMarks.{mark}
 
 -- a vector of sixteen bytes, lane by lane
 abbrev pub sixteen : (ℕ → ℕ) → List ℕ
@@ -17,13 +15,36 @@ in_turn f g = f 0 ∷ g 0 ∷ f 1 ∷ g 1 ∷ f 2 ∷ g 2 ∷ f 3 ∷ g 3 ∷ f 
 unfoldable pub bytes_from : List ℕ → (at : ℕ) → ℕ → ℕ
 bytes_from xs at i = slice_index xs (at + i)
 
--- what is kept for the sixteen bytes from this one on
-unfoldable pub marks_from : ℕ → List ℕ
-marks_from first = sixteen (λ i. mark (first + i))
+-- a byte less another, modulo 256
+abbrev pub byte_less : (a b : ℕ) → ℕ
+byte_less a b = (a + (256 - b)) % 256
 
--- the byte whose digits have these marks
+-- the larger of two numbers, and the smaller
+abbrev pub larger : (a b : ℕ) → ℕ
+larger a b = if nat_lt a b then b else a
+
+abbrev pub smaller : (a b : ℕ) → ℕ
+smaller a b = if nat_lt a b then a else b
+
+-- of a numeral its value, and of another byte 16 or more
+abbrev pub numeral_worth : ℕ → ℕ
+numeral_worth byte = byte_less (byte_less (larger ((byte + 198) % 256) 6) 6) 240
+
+-- of a letter from A to F, in either case, its value, and of another byte 16 or more
+abbrev pub letter_worth : ℕ → ℕ
+letter_worth byte = (bit_and (byte_less byte 65) 223 + 10) % 256
+
+-- of a digit its value, and of another byte 16 or more
+unfoldable pub worth : ℕ → ℕ
+worth byte = if nat_lt byte 256 then smaller (numeral_worth byte) (letter_worth byte) else 255
+
+-- the byte whose digits have these values
 abbrev pub byte_of : (high low : ℕ) → ℕ
 byte_of high low = bit_or (high * 16 % 256) (bit_and low 15)
+
+-- byte 0 or 1 of a lane of two values, the first of them lowest, that is multiplied by 4,097: byte 1 is what they say
+abbrev pub pair_lane : (high low i : ℕ) → ℕ
+pair_lane high low i = (high + 256 * low) * 4097 % 65536 / 256 ^ i % 256
 
 -- two bytes are digits, and say this byte, wherever they stand
 pub record IsPair (high low byte : ℕ) : Type 0 where
@@ -39,8 +60,12 @@ pub record HasRefused (digits : List ℕ) (pairs : ℕ) : Type 0 where
   pub below : pair < pairs
   pub refused : IsRefused (slice_index digits (2 * pair)) (slice_index digits (2 * pair + 1))
 
--- the same of the pair among 32 whose marks these are
-pub record HasLow (f : ℕ → ℕ) : Type 0 where
+-- all lanes are below 16
+pub record AllSmall (lanes : List ℕ) : Type 0 where
+  pub at : (i : ℕ) → i < 16 → slice_index lanes i < 16
+
+-- a lane is 16 or more
+pub record HasLarge (lanes : List ℕ) : Type 0 where
   pub lane : ℕ
-  pub below : lane < 32
-  pub low : f lane < 128
+  pub below : lane < 16
+  pub large : 16 ≤ slice_index lanes lane
