@@ -67,17 +67,18 @@ fn joined(first: u8x16, second: u8x16) -> u8x16
 {
     paired(first).shuffle(
         paired(second),
-        [1, 3, 5, 7, 9, 11, 13, 15, 17, 19, 21, 23, 25, 27, 29, 31],
+        [0, 2, 4, 6, 8, 10, 12, 14, 16, 18, 20, 22, 24, 26, 28, 30],
     )
 }
 
-// The byte of each pair of values, in the odd lane of the two.
+// The byte of each pair of values, in the even lane of the two.
 #[inline(always)]
 fn paired(values: u8x16) -> u8x16
     ensures { (f : ℕ → ℕ) → values ≡ sixteen f
         → result ≡ sixteen (λ i. pair_lane (f (2 * (i / 2))) (f (2 * (i / 2) + 1)) (i % 2)) }
 {
-    (u16x8::from_le_bytes(values) * u16x8::splat(0x1001)).to_le_bytes()
+    let pairs = u16x8::from_le_bytes(values) * u16x8::splat(0x1001);
+    (pairs >> u16x8::splat(8)).to_le_bytes()
 }
 
 /// Whether all are below 16.
