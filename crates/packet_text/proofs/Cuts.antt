@@ -141,4 +141,3 @@ left_less {b = b} {c = c} {d = d} no_lf g still short k = rw (sym g.ended ∙ st
 
 pub hand_none : (n : ℕ) (bytes : List ℕ) → take (n - n) bytes ≡ []
 hand_none n bytes = let e : n - n ≡ 0 = omega arith in rw e refl
-

@@ -4,10 +4,10 @@ use Rattle.std.proofs.lemmas.Bool.{cases_lt, cases_eq, agree_below_at, eqb-false
 use Rattle.std.proofs.lemmas.Bool.Decides.{nat_tests}
 use Rattle.std.proofs.lemmas.List.{ext_get_or, get_or-map, length-map}
 use Rattle.std.proofs.lemmas.Nat.{and_le_r, le_or_l, le_or_r, or_lt}
-use Rattle.std.proofs.lemmas.Simd.{Each1-from_get_or, get_or-put_chunk_at, Each1-all, Each1-zip2, Each2-all, Each2-splat, swz_l, SwzOk, SwzOk-from_below, length-zip2, length-swz_l, get_or-swz_l_below, length-chunk, get_or-chunk, zip2_splat, tops_compared, zip2_of_maps, get_or_wider, get_or_narrower, get_or-zip2, get_or-replicate, below_from_Fits, splat_is_map, zip2-map, zip2_splat_left, mask_l-mod}
+use Rattle.std.proofs.lemmas.Simd.{Each1-from_get_or, get_or-put_chunk_at, Each1-all, Each1-zip2, Each2-splat, swz_l, SwzOk, SwzOk-from_below, length-zip2, length-swz_l, get_or-swz_l_below, length-chunk, get_or-chunk, zip2_splat, tops_compared, zip2_of_maps, get_or_wider, get_or_narrower, get_or-zip2, get_or-replicate, below_from_Fits, splat_is_map, zip2-map, zip2_splat_left, mask_l-mod}
 use lib.Lanes.{zip2, sel_l, mask_l, top, Each1, chunk, put_chunk, number_l, digits_l}
 use Rattle.packet_text.specs.Steps.DigitMarks.{sixteen, bytes_from, byte_of, pair_lane, byte_less, smaller, worth, numeral_worth, letter_worth, AllSmall, HasLarge, IsPair, HasRefused}
-use Rattle.packet_text.proofs.Asking.{pair_read, pair_refused}
+use Rattle.packet_text.proofs.DigitWorth.{pair_read, pair_refused}
 
 pub get_sixteen : (f : ℕ → ℕ) (i : ℕ) → i < 16 → get_or (sixteen f) i 0 ≡ f i
 get_sixteen f zero h = refl
@@ -247,10 +247,12 @@ lane_with seen first second f i long ef es h =
 
 pub seen_small : (seen first second : List ℕ) (f : ℕ → ℕ) → length seen ≡ 16 → first ≡ sixteen f → second ≡ sixteen (λ i. f (16 + i))
     → AllSmall (with_block seen first second) → AllSmall seen
-seen_small seen first second f long ef es all = record { at = λ i h.
-    let is = lane_with seen first second f i long ef es h in
-    let a = all.at i h in
-    omega (arith, is, a, le_or_l (get_or seen i 0) (f i), le_or_l (bit_or (get_or seen i 0) (f i)) (f (16 + i))) }
+seen_small seen first second f long ef es all = record {
+  at = λ i h.
+      let is = lane_with seen first second f i long ef es h in
+      let a = all.at i h in
+      omega (arith, is, a, le_or_l (get_or seen i 0) (f i), le_or_l (bit_or (get_or seen i 0) (f i)) (f (16 + i)));
+}
 
 pub values_small : (seen first second : List ℕ) (f : ℕ → ℕ) → length seen ≡ 16 → first ≡ sixteen f → second ≡ sixteen (λ i. f (16 + i))
     → AllSmall (with_block seen first second) → (i : ℕ) → i < 32 → f i < 16
@@ -316,9 +318,11 @@ over_lanes v long =
     ∙ mask_l-mod (map (λ x. ltb 15 x) v) 64 (omega (arith, length-map v (λ x. ltb 15 x), long))
 
 pub none_over : (v : List ℕ) → length v ≡ 16 → eqb (mask_l (map (top 7) (zip2 (λ a b. cond (ltb a b) 255 0) (replicate 16 15) v)) % 2 ^ 64) 0 ≡ true → AllSmall v
-none_over v long e = record { at = λ i h.
-    let passed = none_pass (λ x. ltb 15 x) v (sym (over_lanes v long) ∙ eqb-true _ _ e) i (omega (arith, long, h)) in
-    omega (arith, ltb-false _ _ passed) }
+none_over v long e = record {
+  at = λ i h.
+      let passed = none_pass (λ x. ltb 15 x) v (sym (over_lanes v long) ∙ eqb-true _ _ e) i (omega (arith, long, h)) in
+      omega (arith, ltb-false _ _ passed);
+}
 
 pub one_over : (v : List ℕ) → length v ≡ 16 → eqb (mask_l (map (top 7) (zip2 (λ a b. cond (ltb a b) 255 0) (replicate 16 15) v)) % 2 ^ 64) 0 ≡ false → HasLarge v
 one_over v long e =
