@@ -17,16 +17,16 @@ pub none_read : (digits bytes : List ℕ) → Read digits bytes 0
 none_read digits bytes = record { at = λ i h l. absurd (omega (arith, h)) }
 
 -- a block more is read
-further : (digits old new : List ℕ) (block last : ℕ) → length new ≡ length old → last + 16 ≡ length old
-    → ((i : ℕ) → min (16 * block) last ≤ i → i < min (16 * block) last + 16 → IsPair (slice_index digits (2 * i)) (slice_index digits (2 * i + 1)) (slice_index new i))
-    → ((i : ℕ) → i < min (16 * block) last → slice_index new i ≡ slice_index old i)
-    → Read digits old (16 * block) → Read digits new (16 * (block + 1))
-further digits old new block last same size here before h = record { at = at_place }
+further : (digits old new : List ℕ) (from last : ℕ) → length new ≡ length old → last + 16 ≡ length old
+    → ((i : ℕ) → min from last ≤ i → i < min from last + 16 → IsPair (slice_index digits (2 * i)) (slice_index digits (2 * i + 1)) (slice_index new i))
+    → ((i : ℕ) → i < min from last → slice_index new i ≡ slice_index old i)
+    → Read digits old from → Read digits new (from + 16)
+further digits old new from last same size here before h = record { at = at_place }
   where
     start : ℕ
-    start = min (16 * block) last
+    start = min from last
 
-    at_place : (i : ℕ) → i < 16 * (block + 1) → i < length new → IsPair (slice_index digits (2 * i)) (slice_index digits (2 * i + 1)) (slice_index new i)
+    at_place : (i : ℕ) → i < from + 16 → i < length new → IsPair (slice_index digits (2 * i)) (slice_index digits (2 * i + 1)) (slice_index new i)
     at_place i f l = elim (cases_lt i start) [
       | inl low ↦ rw (before i low) (h.at i (omega arith) (omega arith))
       | inr high ↦ here i high (omega arith)
@@ -39,19 +39,21 @@ pub record Seen (digits bytes lanes : List ℕ) (pairs : ℕ) : Type 0 where
 
 pub none_seen : (digits bytes : List ℕ) → Seen digits bytes (replicate 16 0) 0
 none_seen digits bytes = record {
-    read = λ all. none_read digits bytes;
-    refused = λ has. absurd (let l = has.large in omega (arith, l, get_or-replicate {A = ℕ} 16 has.lane 0 0 has.below)) }
+  read = λ all. none_read digits bytes;
+  refused = λ has. absurd (let l = has.large in omega (arith, l, get_or-replicate {A = ℕ} 16 has.lane 0 0 has.below));
+}
 
 -- a block more is seen
-pub more_seen : (digits old new was now : List ℕ) (block last start : ℕ) → length new ≡ length old → last + 16 ≡ length old → start ≡ min (16 * block) last
+pub more_seen : (digits old new was now : List ℕ) (from last start : ℕ) → length new ≡ length old → last + 16 ≡ length old → start ≡ min from last
     → (AllSmall now → AllSmall was)
     → (AllSmall now → (i : ℕ) → start ≤ i → i < start + 16 → IsPair (slice_index digits (2 * i)) (slice_index digits (2 * i + 1)) (slice_index new i))
     → (HasLarge now → HasLarge was ⊎ HasRefused digits (start + 16))
     → ((i : ℕ) → i < start → slice_index new i ≡ slice_index old i)
-    → Seen digits old was (16 * block) → Seen digits new now (16 * (block + 1))
-more_seen digits old new was now block last start same size is seen here none before h = record {
-    read = λ all. further digits old new block last same size (rw is at (here all)) (rw is at before) (h.read (seen all));
-    refused = λ has. by_place (none has) }
+    → Seen digits old was from → Seen digits new now (from + 16)
+more_seen digits old new was now from last start same size is seen here none before h = record {
+  read = λ all. further digits old new from last same size (rw is at (here all)) (rw is at before) (h.read (seen all));
+  refused = λ has. by_place (none has);
+}
   where
     by_place : HasLarge was ⊎ HasRefused digits (start + 16) → HasRefused digits (length new)
     by_place (inl has) = rw same (h.refused has)

@@ -4,10 +4,10 @@ use Rattle.std.proofs.lemmas.Bool.{cases_lt, cases_eq, agree_below_at, eqb-false
 use Rattle.std.proofs.lemmas.Bool.Decides.{nat_tests}
 use Rattle.std.proofs.lemmas.List.{ext_get_or, get_or-map, length-map}
 use Rattle.std.proofs.lemmas.Nat.{and_le_r, le_or_l, le_or_r, or_lt}
-use Rattle.std.proofs.lemmas.Simd.{get_or-put_chunk_at, Each1-all, Each1-zip2, Each2-all, Each2-splat, swz_l, SwzOk, SwzOk-from_below, length-zip2, length-swz_l, get_or-swz_l_below, length-chunk, get_or-chunk, zip2_splat, tops_compared, zip2_of_maps, get_or_wider, get_or_narrower, get_or-zip2, get_or-replicate, below_from_Fits, splat_is_map, zip2-map, zip2_splat_left, mask_l-mod}
+use Rattle.std.proofs.lemmas.Simd.{Each1-from_get_or, get_or-put_chunk_at, Each1-all, Each1-zip2, Each2-splat, swz_l, SwzOk, SwzOk-from_below, length-zip2, length-swz_l, get_or-swz_l_below, length-chunk, get_or-chunk, zip2_splat, tops_compared, zip2_of_maps, get_or_wider, get_or_narrower, get_or-zip2, get_or-replicate, below_from_Fits, splat_is_map, zip2-map, zip2_splat_left, mask_l-mod}
 use lib.Lanes.{zip2, sel_l, mask_l, top, Each1, chunk, put_chunk, number_l, digits_l}
 use Rattle.packet_text.specs.Steps.DigitMarks.{sixteen, bytes_from, byte_of, pair_lane, byte_less, smaller, worth, numeral_worth, letter_worth, AllSmall, HasLarge, IsPair, HasRefused}
-use Rattle.packet_text.proofs.Asking.{pair_read, pair_refused}
+use Rattle.packet_text.proofs.DigitWorth.{pair_read, pair_refused}
 
 pub get_sixteen : (f : ℕ → ℕ) (i : ℕ) → i < 16 → get_or (sixteen f) i 0 ≡ f i
 get_sixteen f zero h = refl
@@ -119,55 +119,62 @@ chunk_pair f (suc (suc (suc (suc (suc (suc (suc (suc j)))))))) h = absurd (omega
 number_pair : (a b : ℕ) → number_l 256 (a ∷ b ∷ []) ≡ a + 256 * b
 number_pair a b = omega arith
 
--- the values of pairs, multiplied
+-- the values of pairs, multiplied, and of these the upper half
 abbrev multiplied : List ℕ → List ℕ
 multiplied values = zip2 (λ a b. a * b % 65536) (digits_l 65536 8 (number_l 256 values)) (replicate 8 4097)
 
-multiplied_at : (values : List ℕ) (f : ℕ → ℕ) (j : ℕ) → Each1 (Fits w8) values → values ≡ sixteen f → j < 8 → get_or (multiplied values) j 0 ≡ (f (2 * j) + 256 * f (2 * j + 1)) * 4097 % 65536
-multiplied_at values f j fits is h =
+abbrev halved : List ℕ → List ℕ
+halved values = zip2 (λ a b. a / 2 ^ b) (multiplied values) (replicate 8 8)
+
+halved_at : (values : List ℕ) (f : ℕ → ℕ) (j : ℕ) → Each1 (Fits w8) values → values ≡ sixteen f → j < 8 → get_or (halved values) j 0 ≡ (f (2 * j) + 256 * f (2 * j + 1)) * 4097 % 65536 / 256
+halved_at values f j fits is h =
     let words = digits_l 65536 8 (number_l 256 values) in
     let word : get_or words j 0 ≡ f (2 * j) + 256 * f (2 * j + 1) =
     get_or_wider 256 2 65536 8 values j refl (below_from_Fits w8 values fits) h
     ∙ ap (λ v. number_l 256 (chunk (2 * j) 2 v)) is
     ∙ ap (number_l 256) (chunk_pair f j h)
     ∙ number_pair (f (2 * j)) (f (2 * j + 1)) in
-    get_or-zip2 (λ a b. a * b % 65536) words (replicate 8 4097) j 0 0 0 h h
+    get_or-zip2 (λ a b. a / 2 ^ b) (multiplied values) (replicate 8 8) j 0 0 0 h h
+    ∙ ap (λ n. get_or (multiplied values) j 0 / 2 ^ n) (get_or-replicate {A = ℕ} 8 j 8 0 h)
+    ∙ ap (λ n. n / 256) (get_or-zip2 (λ a b. a * b % 65536) words (replicate 8 4097) j 0 0 0 h h
     ∙ ap (λ n. n * get_or (replicate 8 4097) j 0 % 65536) word
-    ∙ ap (λ n. (f (2 * j) + 256 * f (2 * j + 1)) * n % 65536) (get_or-replicate 8 j 4097 0 h)
+    ∙ ap (λ n. (f (2 * j) + 256 * f (2 * j + 1)) * n % 65536) (get_or-replicate 8 j 4097 0 h))
 
-pub pairs_multiplied : (values : List ℕ) (f : ℕ → ℕ) → Each1 (Fits w8) values → values ≡ sixteen f
-    → digits_l 256 16 (number_l 65536 (multiplied values)) ≡ sixteen (λ i. pair_lane (f (2 * (i / 2))) (f (2 * (i / 2) + 1)) (i % 2))
-pairs_multiplied values f fits is = ext_get_or 0 _ _ refl at_lane
+pub pairs_halved : (values : List ℕ) (f : ℕ → ℕ) → Each1 (Fits w8) values → values ≡ sixteen f
+    → digits_l 256 16 (number_l 65536 (halved values)) ≡ sixteen (λ i. pair_lane (f (2 * (i / 2))) (f (2 * (i / 2) + 1)) (i % 2))
+pairs_halved values f fits is = ext_get_or 0 _ _ refl at_lane
   where
     lane : ℕ → ℕ
     lane i = pair_lane (f (2 * (i / 2))) (f (2 * (i / 2) + 1)) (i % 2)
 
-    at_lane : (i : ℕ) → i < 16 → get_or (digits_l 256 16 (number_l 65536 (multiplied values))) i 0 ≡ get_or (sixteen lane) i 0
+    fit : Each1 (λ x. x < 65536) (halved values)
+    fit = Each1-from_get_or (λ x. x < 65536) (halved values) 0 (λ i l. (let e = halved_at values f i fits is l in omega (arith, e)))
+
+    at_lane : (i : ℕ) → i < 16 → get_or (digits_l 256 16 (number_l 65536 (halved values))) i 0 ≡ get_or (sixteen lane) i 0
     at_lane i h =
         let j = i / 2 in
         let odd = i % 2 in
         let place : 2 * j + odd ≡ i = omega arith in
         let below : j < 8 = omega (arith, h) in
-        let fit = Each1-zip2 (λ a b. a * b % 65536) (λ x. x < 65536) (digits_l 65536 8 (number_l 256 values)) (replicate 8 4097) (Each2-all (λ a b. a * b % 65536 < 65536) (λ a b. omega arith) (digits_l 65536 8 (number_l 256 values)) (replicate 8 4097)) in
-        ap (λ n. get_or (digits_l 256 16 (number_l 65536 (multiplied values))) n 0) (sym place)
-        ∙ get_or_narrower 65536 2 256 16 (multiplied values) j odd refl fit (omega arith) (omega (arith, place, h))
-        ∙ ap (λ n. n / 256 ^ odd % 256) (multiplied_at values f j fits is below)
+        ap (λ n. get_or (digits_l 256 16 (number_l 65536 (halved values))) n 0) (sym place)
+        ∙ get_or_narrower 65536 2 256 16 (halved values) j odd refl fit (omega arith) (omega (arith, place, h))
+        ∙ ap (λ n. n / 256 ^ odd % 256) (halved_at values f j fits is below)
         ∙ sym (get_sixteen lane i h)
 
-joined_lane : (high low : ℕ) → high < 16 → low < 16 → pair_lane high low 1 ≡ byte_of high low
+joined_lane : (high low : ℕ) → high < 16 → low < 16 → pair_lane high low 0 ≡ byte_of high low
 joined_lane v w f g =
-    let at : pair_lane ((16 * v + w) / 16) ((16 * v + w) % 16) 1 ≡ byte_of ((16 * v + w) / 16) ((16 * v + w) % 16) =
-    eqb-true _ _ (agree_below_at (λ n. pair_lane (n / 16) (n % 16) 1 == byte_of (n / 16) (n % 16)) (λ n. true) 256 (16 * v + w) refl (omega (arith, f, g))) in
+    let at : pair_lane ((16 * v + w) / 16) ((16 * v + w) % 16) 0 ≡ byte_of ((16 * v + w) / 16) ((16 * v + w) % 16) =
+    eqb-true _ _ (agree_below_at (λ n. pair_lane (n / 16) (n % 16) 0 == byte_of (n / 16) (n % 16)) (λ n. true) 256 (16 * v + w) refl (omega (arith, f, g))) in
     let high : (16 * v + w) / 16 ≡ v = omega (arith, g) in
     let low : (16 * v + w) % 16 ≡ w = omega (arith, g) in
     rw (high, low) at at
 
 pub pairs_joined : (f : ℕ → ℕ) → ((i : ℕ) → i < 32 → f i < 16)
-    → sixteen (λ i. pair_lane (f (2 * i)) (f (2 * i + 1)) 1) ≡ sixteen (λ i. byte_of (f (2 * i)) (f (2 * i + 1)))
+    → sixteen (λ i. pair_lane (f (2 * i)) (f (2 * i + 1)) 0) ≡ sixteen (λ i. byte_of (f (2 * i)) (f (2 * i + 1)))
 pairs_joined f small =
-    ext_get_or 0 (sixteen (λ i. pair_lane (f (2 * i)) (f (2 * i + 1)) 1)) (sixteen (λ i. byte_of (f (2 * i)) (f (2 * i + 1)))) refl (λ i l.
+    ext_get_or 0 (sixteen (λ i. pair_lane (f (2 * i)) (f (2 * i + 1)) 0)) (sixteen (λ i. byte_of (f (2 * i)) (f (2 * i + 1)))) refl (λ i l.
     let below : i < 16 = l in
-    get_sixteen (λ i. pair_lane (f (2 * i)) (f (2 * i + 1)) 1) i below
+    get_sixteen (λ i. pair_lane (f (2 * i)) (f (2 * i + 1)) 0) i below
     ∙ joined_lane (f (2 * i)) (f (2 * i + 1)) (small (2 * i) (omega (arith, below))) (small (2 * i + 1) (omega (arith, below)))
     ∙ sym (get_sixteen (λ i. byte_of (f (2 * i)) (f (2 * i + 1))) i below))
 
@@ -240,10 +247,12 @@ lane_with seen first second f i long ef es h =
 
 pub seen_small : (seen first second : List ℕ) (f : ℕ → ℕ) → length seen ≡ 16 → first ≡ sixteen f → second ≡ sixteen (λ i. f (16 + i))
     → AllSmall (with_block seen first second) → AllSmall seen
-seen_small seen first second f long ef es all = record { at = λ i h.
-    let is = lane_with seen first second f i long ef es h in
-    let a = all.at i h in
-    omega (arith, is, a, le_or_l (get_or seen i 0) (f i), le_or_l (bit_or (get_or seen i 0) (f i)) (f (16 + i))) }
+seen_small seen first second f long ef es all = record {
+  at = λ i h.
+      let is = lane_with seen first second f i long ef es h in
+      let a = all.at i h in
+      omega (arith, is, a, le_or_l (get_or seen i 0) (f i), le_or_l (bit_or (get_or seen i 0) (f i)) (f (16 + i)));
+}
 
 pub values_small : (seen first second : List ℕ) (f : ℕ → ℕ) → length seen ≡ 16 → first ≡ sixteen f → second ≡ sixteen (λ i. f (16 + i))
     → AllSmall (with_block seen first second) → (i : ℕ) → i < 32 → f i < 16
@@ -309,9 +318,11 @@ over_lanes v long =
     ∙ mask_l-mod (map (λ x. ltb 15 x) v) 64 (omega (arith, length-map v (λ x. ltb 15 x), long))
 
 pub none_over : (v : List ℕ) → length v ≡ 16 → eqb (mask_l (map (top 7) (zip2 (λ a b. cond (ltb a b) 255 0) (replicate 16 15) v)) % 2 ^ 64) 0 ≡ true → AllSmall v
-none_over v long e = record { at = λ i h.
-    let passed = none_pass (λ x. ltb 15 x) v (sym (over_lanes v long) ∙ eqb-true _ _ e) i (omega (arith, long, h)) in
-    omega (arith, ltb-false _ _ passed) }
+none_over v long e = record {
+  at = λ i h.
+      let passed = none_pass (λ x. ltb 15 x) v (sym (over_lanes v long) ∙ eqb-true _ _ e) i (omega (arith, long, h)) in
+      omega (arith, ltb-false _ _ passed);
+}
 
 pub one_over : (v : List ℕ) → length v ≡ 16 → eqb (mask_l (map (top 7) (zip2 (λ a b. cond (ltb a b) 255 0) (replicate 16 15) v)) % 2 ^ 64) 0 ≡ false → HasLarge v
 one_over v long e =

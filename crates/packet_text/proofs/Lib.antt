@@ -1,5 +1,5 @@
 pub mod Lists
-pub mod Asking
+pub mod DigitWorth
 pub mod DigitBlocks
 pub mod DigitLanes
 pub mod ByteBlocks

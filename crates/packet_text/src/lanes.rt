@@ -8,7 +8,8 @@ use std::simd::prelude::*;
 /// Bytes that go together; twice as many digits do.
 pub(crate) const BLOCK: usize = 16;
 
-/// Writes the sixteen bytes that 32 digits say from `at` on, and adds the digits' values to those that were seen.
+/// Writes the sixteen bytes that 32 digits say from `at` on. Gives `seen` with the bits of the digits' values: a lane
+/// is 16 or more once a byte was seen there that is no digit.
 #[inline(always)]
 pub(crate) fn decode_block(digits: &[u8], bytes: &mut [u8], at: usize, seen: u8x16) -> u8x16
     requires digits { 2 * at + 32 ≤ length digits.now }
@@ -35,7 +36,7 @@ pub(crate) fn load(bytes: &[u8], at: usize) -> u8x16
     u8x16::from_slice(&bytes[at..])
 }
 
-// The values of sixteen digits of either case. Of a byte that is no digit it is 16 or more.
+// The values of sixteen digits of either case. For a byte that is no digit it has 16 or more.
 #[inline(always)]
 fn values(digits: u8x16) -> u8x16
     ensures { result ≡ map worth digits }
@@ -43,7 +44,7 @@ fn values(digits: u8x16) -> u8x16
     numerals(digits).simd_min(letters(digits))
 }
 
-// The values of numerals. Of another byte it is 16 or more.
+// The values of numerals, and 16 or more for another byte. The sum takes '9' to 255 and the byte behind it to 0.
 #[inline(always)]
 fn numerals(digits: u8x16) -> u8x16
     ensures { result ≡ map numeral_worth digits }
@@ -51,7 +52,7 @@ fn numerals(digits: u8x16) -> u8x16
     (digits + u8x16::splat(198)).saturating_sub(u8x16::splat(6)) - u8x16::splat(240)
 }
 
-// The values of letters from A to F. Of another byte it is 16 or more.
+// The values of letters from A to F, and 16 or more for another byte. The bit that tells the cases apart is dropped.
 #[inline(always)]
 fn letters(digits: u8x16) -> u8x16
     ensures { result ≡ map letter_worth digits }
@@ -59,7 +60,7 @@ fn letters(digits: u8x16) -> u8x16
     ((digits - u8x16::splat(65)) & u8x16::splat(0xDF)) + u8x16::splat(10)
 }
 
-// The bytes of the pairs, where all are values of digits.
+// The bytes that 32 values of digits say, two of them a byte.
 #[inline(always)]
 fn joined(first: u8x16, second: u8x16) -> u8x16
     ensures { (f : ℕ → ℕ) → first ≡ sixteen f → second ≡ sixteen (λ i. f (16 + i)) → ((i : ℕ) → i < 32 → f i < 16)
@@ -67,17 +68,19 @@ fn joined(first: u8x16, second: u8x16) -> u8x16
 {
     paired(first).shuffle(
         paired(second),
-        [1, 3, 5, 7, 9, 11, 13, 15, 17, 19, 21, 23, 25, 27, 29, 31],
+        [0, 2, 4, 6, 8, 10, 12, 14, 16, 18, 20, 22, 24, 26, 28, 30],
     )
 }
 
-// The byte of each pair of values, in the odd lane of the two.
+// What each two values say, in the even lane. As a word they are high + 256 low, so 4,097 times that has 16 high + low
+// in its upper half.
 #[inline(always)]
 fn paired(values: u8x16) -> u8x16
     ensures { (f : ℕ → ℕ) → values ≡ sixteen f
         → result ≡ sixteen (λ i. pair_lane (f (2 * (i / 2))) (f (2 * (i / 2) + 1)) (i % 2)) }
 {
-    (u16x8::from_le_bytes(values) * u16x8::splat(0x1001)).to_le_bytes()
+    let pairs = u16x8::from_le_bytes(values) * u16x8::splat(0x1001);
+    (pairs >> u16x8::splat(8)).to_le_bytes()
 }
 
 /// Whether all are below 16.

@@ -1,4 +1,4 @@
-// What pairs of hex digits are worth.
+// What pairs of hex digits say.
 ghost use Rattle.std.specs.Prelude.{◌≡◌, ◌≤◌, ◌*◌, length, if◌then◌else◌, Some, None};
 ghost use Rattle.hex.specs.Hex.{decode_of};
 ghost use Rattle.packet_text.specs.PacketText.{decoded};
@@ -32,8 +32,9 @@ impl DigitPairs {
     }
 }
 
-// Block by block; the last overlaps the one before it. Whether all were digits is asked at the end.
-#[tactic(auto, using(crate::proofs::DigitBlocks::none_seen, crate::proofs::DigitBlocks::more_seen, crate::proofs::DigitBlocks::seen_all, crate::proofs::DigitBlocks::seen_none))]
+// Two blocks at a time. One that would go past the end goes over the last 16 bytes again. Whether all were digits is
+// asked once, at the end.
+#[tactic(auto, using(crate::proofs::DigitBlocks::none_seen, crate::proofs::DigitBlocks::seen_all, crate::proofs::DigitBlocks::seen_none))]
 fn decode_blocks(digits: &[u8], bytes: &mut [u8]) -> bool
     requires size { length digits.now ≡ 2 * length bytes.old }
     requires some { 16 ≤ length bytes.old }
@@ -41,8 +42,9 @@ fn decode_blocks(digits: &[u8], bytes: &mut [u8]) -> bool
 {
     let last = bytes.len() - BLOCK;
     let mut seen = u8x16::splat(0);
-    for block in 0..bytes.len().div_ceil(BLOCK) {
-        seen = decode_block(digits, bytes, (BLOCK * block).min(last), seen);
+    for two in 0..bytes.len().div_ceil(2 * BLOCK) {
+        seen = decode_block(digits, bytes, (2 * BLOCK * two).min(last), seen);
+        seen = decode_block(digits, bytes, (2 * BLOCK * two + BLOCK).min(last), seen);
     }
     all_small(seen)
 }

@@ -42,9 +42,9 @@ worth byte = if nat_lt byte 256 then smaller (numeral_worth byte) (letter_worth 
 abbrev pub byte_of : (high low : ℕ) → ℕ
 byte_of high low = bit_or (high * 16 % 256) (bit_and low 15)
 
--- byte 0 or 1 of a lane of two values, the first of them lowest, that is multiplied by 4,097: byte 1 is what they say
+-- byte i of the upper half of two values as a word of 16 bits, multiplied by 4,097: byte 0 is what they say
 abbrev pub pair_lane : (high low i : ℕ) → ℕ
-pair_lane high low i = (high + 256 * low) * 4097 % 65536 / 256 ^ i % 256
+pair_lane high low i = (high + 256 * low) * 4097 % 65536 / 256 / 256 ^ i % 256
 
 -- two bytes are digits, and say this byte, wherever they stand
 pub record IsPair (high low byte : ℕ) : Type 0 where
