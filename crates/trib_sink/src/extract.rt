@@ -13,6 +13,7 @@ use gmp_rule::Runner;
 use odtu_columns::TakeFrame;
 use otn_base::limits::{OTU2_SLOTS, OTU3_SLOTS, PAYLOAD_COLUMNS};
 use otn_base::{LineKind, Slots};
+use std::mem;
 
 // So many cycles in a row are taken one by one.
 const FEW_CYCLES: usize = 3;
@@ -168,7 +169,8 @@ fn put_few<F: TakeFrame>(
 }
 
 /// Writes the data groups among these of one byte each, one after the other, to `into` at `at`, and says where they
-/// end. What stands before them stays. The next group that the runner is asked about is the first of them.
+/// end. What stands before them stays. The next group that the runner is asked about is the first of them. The runner
+/// is taken out of its place for that, so that the loop keeps it in registers.
 #[tactic(auto, using(crate::proofs::Rows::row_steps))]
 pub(crate) fn take_own(runner: &mut Runner, own: &[u8], into: &mut [u8], at: usize) -> usize
     requires room { at + length own.now ≤ length into.old }
@@ -177,15 +179,17 @@ pub(crate) fn take_own(runner: &mut Runner, own: &[u8], into: &mut [u8], at: usi
     ensures bytes { take result into.new ≡ take at into.old ++ own_data runner.old.cm runner.old.asked own.now }
     ensures runner { runner.new ≡ record runner.old { asked = runner.old.asked + length own.now } }
 {
+    let mut state = mem::replace(runner, Runner::start(0));
     let count = own.len();
     let mut end = at;
     let mut cycle = 0usize;
     while cycle < count {
-        end = take_byte(runner, own, cycle, into, end);
-        let run = runner.data_run((count - cycle - 1) as u32) as usize;
+        end = take_byte(&mut state, own, cycle, into, end);
+        let run = state.data_run((count - cycle - 1) as u32) as usize;
         end = put_bytes(own, cycle + 1, run, into, end);
         cycle += run + 1;
     }
+    *runner = state;
     end
 }
 

@@ -5,9 +5,9 @@ use Rattle.trib_sink.proofs.extract.take_own.Given as goal
 abbrev pub invariant-loop-cycle : goal.invariant-loop-cycle
 invariant-loop-cycle l = record {
   cycles : l.cycle ≤ l.count;
-  runner : l.runner ≡ record l.initial.runner { asked = l.initial.runner.asked + l.cycle };
+  state : l.state ≡ record l.fn.runner { asked = l.fn.runner.asked + l.cycle };
   few : l.end ≤ l.at + l.cycle;
-  bytes : take l.end l.into ≡ take l.at l.initial.into ++ row_data 1 l.initial.runner.cm l.initial.runner.asked l.own (1 ∷ []) l.cycle;
+  bytes : take l.end l.into ≡ take l.at l.fn.into ++ row_data 1 l.fn.runner.cm l.fn.runner.asked l.own (1 ∷ []) l.cycle;
 }
 
 abbrev pub decreases-loop-cycle : goal.decreases-loop-cycle
