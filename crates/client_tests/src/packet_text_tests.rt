@@ -3,7 +3,7 @@ ghost use Rattle.std.specs.Prelude.{◌≡◌, ◌≤◌, ◌*◌, length};
 
 use hex::{decode_to_slice, encode};
 use otn_ports::{InPlaceOf, ListedSink, ListedSource, MemSource, OutPlaceOf, Source, Written};
-use packet_text::{ByteDigits, DigitPairs, Line, PacketLines, write_packet};
+use packet_text::{ByteDigits, Line, PacketLines, decode_digits, write_packet};
 use std::alloc::{AllocError, Global};
 use std::test::Fail;
 
@@ -55,14 +55,12 @@ const NEAR: &[u8] = b"0459abcdefACF/:@G`g\0\xFF";
 
 #[test]
 fn pairs_are_what_the_library_says(rt: HostRuntime) -> Result<(), Fail> {
-    let alloc = rt.alloc();
-    let pairs = DigitPairs::new(alloc).map_err(|_memory| AllocError)?;
     let mut count = 0_u32;
     for first in NEAR {
         for second in NEAR {
             let digits = [*first, *second];
             let (mut kept, mut said) = ([0_u8], [0_u8]);
-            let taken = pairs.decode(&digits, &mut kept);
+            let taken = decode_digits(&digits, &mut kept);
             assert_eq!(rt; taken, decode_to_slice(&digits, &mut said).is_ok());
             if taken {
                 assert_eq!(rt; kept, said);
@@ -75,25 +73,23 @@ fn pairs_are_what_the_library_says(rt: HostRuntime) -> Result<(), Fail> {
 }
 
 // Whether the pairs and the library say the same of digits.
-fn agree(pairs: &DigitPairs, digits: &[u8], kept: &mut [u8], said: &mut [u8]) -> bool
+fn agree(digits: &[u8], kept: &mut [u8], said: &mut [u8]) -> bool
     requires { length digits.now ≡ 2 * length kept.old }
 {
-    let taken = pairs.decode(digits, kept);
+    let taken = decode_digits(digits, kept);
     let is_hex = decode_to_slice(digits, said).is_ok();
     taken == is_hex && (!taken || &*kept == &*said)
 }
 
 #[test]
 fn blocks_are_what_the_library_says(rt: HostRuntime) -> Result<(), Fail> {
-    let alloc = rt.alloc();
-    let pairs = DigitPairs::new(alloc).map_err(|_memory| AllocError)?;
     let mut digits = [b'7'; 70];
     let (mut kept, mut said) = ([0_u8; 35], [0_u8; 35]);
     // each byte at each place of two blocks and one that overlaps
     for at in 0..70_usize {
         for byte in 0..=255_u8 {
             digits[at] = byte;
-            assert!(rt; agree(&pairs, &digits, &mut kept, &mut said));
+            assert!(rt; agree(&digits, &mut kept, &mut said));
         }
         digits[at] = b'0' + (at % 10) as u8;
     }
@@ -104,7 +100,7 @@ fn blocks_are_what_the_library_says(rt: HostRuntime) -> Result<(), Fail> {
             let before = [digits[at], digits[at + 1]];
             digits[at] = first;
             digits[at + 1] = second;
-            assert!(rt; agree(&pairs, &digits, &mut kept, &mut said));
+            assert!(rt; agree(&digits, &mut kept, &mut said));
             digits[at] = before[0];
             digits[at + 1] = before[1];
         }

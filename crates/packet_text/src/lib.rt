@@ -17,5 +17,5 @@ pub use byte_digits::ByteDigits;
 pub use laws::{given_is_among, written_reads_back};
 pub use line::Line;
 pub use packet_lines::PacketLines;
-pub use pairs::DigitPairs;
+pub use pairs::decode_digits;
 pub use writing::write_packet;

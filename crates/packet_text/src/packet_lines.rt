@@ -8,7 +8,6 @@ use crate::Line;
 use crate::cutter::{Cut, Cutter};
 use crate::digits::{MOST_DIGITS, read_line};
 use crate::found::{Found, answer_for, pass};
-use crate::pairs::DigitPairs;
 use otn_base::Memory;
 use otn_ports::{InPlaceOf, Source};
 use std::alloc::Global;
@@ -22,7 +21,6 @@ const MOST_PACKET: usize = MOST_DIGITS / 2;
 #[derive(Drop)]
 pub struct PacketLines {
     cutter: Cutter,
-    pairs: DigitPairs,
     packet: Vec<u8>,
     len: usize,
     // Where the next line's bytes are made.
@@ -49,7 +47,6 @@ impl PacketLines {
     {
         Ok(PacketLines {
             cutter: Cutter::new(alloc)?,
-            pairs: DigitPairs::new(alloc)?,
             packet: vec![in alloc; 0u8; MOST_PACKET]?,
             len: 0,
             spare: vec![in alloc; 0u8; MOST_PACKET]?,
@@ -154,7 +151,7 @@ impl PacketLines {
         ensures kept { result ≢ Found.Packet → (lines_view self.new).packet ≡ (lines_view self.old).packet }
     {
         self.number = self.number.saturating_add(1);
-        match read_line(&self.pairs, self.cutter.line(), &mut self.spare) {
+        match read_line(self.cutter.line(), &mut self.spare) {
             None => Found::Bad,
             Some(0) => pass(&mut self.empty),
             Some(n) => {

@@ -5,31 +5,18 @@ ghost use Rattle.packet_text.specs.PacketText.{decoded};
 
 use crate::lanes::{BLOCK, all_small, decode_block};
 use hex::decode_to_slice;
-use otn_base::Memory;
-use std::alloc::Global;
 use std::simd::u8x16;
 
-/// Reads pairs of hex digits of either case.
-#[derive(Drop)]
-pub struct DigitPairs {}
-
-impl DigitPairs {
-    /// Takes no memory.
-    pub fn new(_alloc: Global) -> Result<DigitPairs, Memory> {
-        Ok(DigitPairs {})
+/// Writes the bytes that hex digits of either case say, two of them a byte, to the slice, and says whether they are
+/// digits; if not, the slice's content is open.
+pub fn decode_digits(digits: &[u8], bytes: &mut [u8]) -> bool
+    requires { length digits.now ≡ 2 * length bytes.old }
+    ensures { decoded (decode_of digits.now) ≡ (if result then Some bytes.new else None) }
+{
+    if bytes.len() < BLOCK {
+        return decode_few(digits, bytes);
     }
-
-    /// Writes the bytes that hex digits say, two of them a byte, to the slice, and says whether they are digits; if
-    /// not, the slice's content is open.
-    pub fn decode(&self, digits: &[u8], bytes: &mut [u8]) -> bool
-        requires { length digits.now ≡ 2 * length bytes.old }
-        ensures { decoded (decode_of digits.now) ≡ (if result then Some bytes.new else None) }
-    {
-        if bytes.len() < BLOCK {
-            return decode_few(digits, bytes);
-        }
-        decode_blocks(digits, bytes)
-    }
+    decode_blocks(digits, bytes)
 }
 
 // Two blocks at a time. One that would go past the end goes over the last 16 bytes again. Whether all were digits is

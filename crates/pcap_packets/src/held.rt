@@ -12,7 +12,7 @@ use crate::front::RECORD_HEADER;
 use crate::making::{put_at, put_header, put_record};
 use otn_base::Memory;
 use otn_ports::{Failed, Sink, Source};
-use packet_text::{ByteDigits, DigitPairs};
+use packet_text::{ByteDigits, decode_digits};
 use std::alloc::Global;
 
 /// Bytes of a buffer: the longest line, and the longest record twice.
@@ -119,7 +119,7 @@ impl Held {
     }
 
     /// Puts the bytes that digits say behind them, where none went since they were cleared.
-    pub(crate) fn push_packet(&mut self, pairs: &DigitPairs, digits: &[u8])
+    pub(crate) fn push_packet(&mut self, digits: &[u8])
         requires front { self.old.at ≡ 0 }
         requires room { length (held self.old) + length digits.now / 2 ≤ 131072 }
         requires even { length digits.now % 2 ≡ 0 }
@@ -128,12 +128,12 @@ impl Held {
         ensures front { self.new.at ≡ 0 }
     {
         let size = digits.len() / 2;
-        decode_at(pairs, digits, self.end, &mut self.bytes);
+        decode_at(digits, self.end, &mut self.bytes);
         self.end += size;
     }
 
     /// Puts the record of the packet that digits say behind them, where none went since they were cleared.
-    pub(crate) fn push_record(&mut self, pairs: &DigitPairs, digits: &[u8])
+    pub(crate) fn push_record(&mut self, digits: &[u8])
         requires front { self.old.at ≡ 0 }
         requires room { length (held self.old) + (16 + length digits.now / 2) ≤ 131072 }
         requires even { length digits.now % 2 ≡ 0 }
@@ -142,7 +142,7 @@ impl Held {
         ensures front { self.new.at ≡ 0 }
     {
         self.push_header(digits.len());
-        self.push_packet(pairs, digits);
+        self.push_packet(digits);
     }
 
     // Puts the header of the record of a packet of so many digits behind them.
@@ -262,12 +262,12 @@ fn ask_behind<S: Source>(source: &mut S, buffer: &mut [u8], end: usize) -> Resul
 }
 
 // Puts the bytes that digits say into a buffer, from `at` on.
-fn decode_at(pairs: &DigitPairs, digits: &[u8], at: usize, buffer: &mut [u8])
+fn decode_at(digits: &[u8], at: usize, buffer: &mut [u8])
     requires room { at + length digits.now / 2 ≤ length buffer.old }
     requires even { length digits.now % 2 ≡ 0 }
     requires digits { all_lower digits.now ≡ true }
     ensures { take (at + length digits.now / 2) buffer.new ≡ take at buffer.old ++ packet_of digits.now }
 {
     let size = digits.len() / 2;
-    let _digits = pairs.decode(digits, &mut buffer[at..at + size]);
+    let _digits = decode_digits(digits, &mut buffer[at..at + size]);
 }

@@ -12,7 +12,6 @@ use crate::held::Held;
 use crate::leading::{MOST_DIGITS, leading_digits};
 use otn_base::Memory;
 use otn_ports::{Failed, Sink, Written};
-use packet_text::DigitPairs;
 use std::alloc::Global;
 
 // The header of a capture, low byte first: version 2.4, packets of 65,535 bytes at most, Ethernet.
@@ -23,7 +22,6 @@ const HEADER: [u8; 24] = [
 /// The digits of a line that has begun, and, once it has ended, what is not written yet of its record.
 #[derive(Drop)]
 pub(crate) struct LineRecord {
-    pairs: DigitPairs,
     line: Held,
     rest: Held,
     // Whether a record was made, and with it the capture's header.
@@ -42,7 +40,6 @@ impl LineRecord {
         ensures begun { IfOk result (λ lines. lines.begun ≡ false) }
     {
         Ok(LineRecord {
-            pairs: DigitPairs::new(alloc)?,
             line: Held::new(alloc)?,
             rest: Held::new(alloc)?,
             begun: false,
@@ -99,7 +96,7 @@ impl LineRecord {
         ensures begun { self.new.begun ≡ true }
     {
         self.begin_record();
-        self.rest.push_record(&self.pairs, self.line.bytes());
+        self.rest.push_record(self.line.bytes());
     }
 
     // Begins a record: the capture's header is in front of the first.
@@ -229,7 +226,7 @@ impl LineRecord {
         self.line.clear();
         self.line.push(digits);
         self.rest.clear();
-        self.rest.push_record(&self.pairs, digits);
+        self.rest.push_record(digits);
         self.rest.pass(sent);
     }
 }
