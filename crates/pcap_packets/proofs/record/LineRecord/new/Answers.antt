@@ -5,5 +5,5 @@ use Rattle.pcap_packets.proofs.record.LineRecord.new.Goals as goal
 
 pub invariant_of-result : goal.invariant_of-result
 invariant_of-result c =
-    let none = c.in_ok-new-2.ensures.none in
-    record { front = c.in_ok-new-2.ensures.front; few = omega (arith, ap length none); digits = ap all_lower none ∙ all_lower-none; even = λ some. absurd (some c.in_ok-new-3.ensures.none) }
+    let none = c.in_ok-new.ensures.none in
+    record { front = c.in_ok-new.ensures.front; few = omega (arith, ap length none); digits = ap all_lower none ∙ all_lower-none; even = λ some. absurd (some c.in_ok-new-2.ensures.none) }
