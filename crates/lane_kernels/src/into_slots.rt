@@ -33,8 +33,8 @@ pub fn split8(row: &[u8], into: &mut SlotRows<OTU2_SLOTS>)
 }
 
 /// Writes the payload of a row of an OTU2, 3,808 bytes, slot by slot into bytes that have `wide` for each slot, behind
-/// the first `at` of them: byte x, from 0, is byte `at + x / 8` of slot `x % 8 + 1` (G.709 clause 19.1). Every other byte
-/// stays.
+/// the first `at` of them: byte x, from 0, is byte `at + x / 8` of slot `x % 8 + 1` (G.709 clause 19.1). Every other
+/// byte stays.
 #[inline]
 pub fn split8_among(row: &[u8], into: &mut [u8], at: usize, wide: usize)
     requires row { length row.now ≡ PAYLOAD_COLUMNS }

@@ -6,8 +6,8 @@ use crate::block::Block;
 /// The bytes of a group, as a vector of eight bytes holds them.
 pub(crate) const GROUP: usize = 8;
 
-/// Writes eight lists of `count` bytes, each `wide` bytes behind the one before it, from `to` on: byte j of list k, from
-/// 0, is byte k of the group that begins `step * j` bytes behind `first`.
+/// Writes eight lists of `count` bytes, each `wide` bytes behind the one before it, from `to` on: byte j of list k,
+/// from 0, is byte k of the group that begins `step * j` bytes behind `first`.
 #[inline(always)]
 pub(crate) fn apart(
     row: &[u8],

@@ -16,8 +16,8 @@ const SLOT_ROW: usize = PAYLOAD_COLUMNS / OTU2_SLOTS;
 
 const SLOT_FRAME: usize = ROWS * SLOT_ROW;
 
-/// The payload of a frame of an OTU2, slot by slot: of each the 1,904 bytes that it has in a frame, those of row 1, then
-/// those of row 2, and so on. It is seen as the bytes of slot 1, then those of slot 2, and so on.
+/// The payload of a frame of an OTU2, slot by slot: of each the 1,904 bytes that it has in a frame, those of row 1,
+/// then those of row 2, and so on. It is seen as the bytes of slot 1, then those of slot 2, and so on.
 #[derive(Drop)]
 pub struct SlotPayload {
     bytes: Vec<u8>,
@@ -88,7 +88,8 @@ fn split_row(frame: &Frame<LINE_COLUMNS>, row: u32, into: &mut [u8])
     requires high { row ≤ ROWS }
     requires size { length into.old ≡ ROWS * PAYLOAD_COLUMNS }
     ensures here { (k j : ℕ) → k < OTU2_SLOTS → j < PAYLOAD_COLUMNS / OTU2_SLOTS
-        → slice_index into.new (ROWS * (PAYLOAD_COLUMNS / OTU2_SLOTS) * k + PAYLOAD_COLUMNS / OTU2_SLOTS * (row - 1) + j)
+        → slice_index into.new
+        (ROWS * (PAYLOAD_COLUMNS / OTU2_SLOTS) * k + PAYLOAD_COLUMNS / OTU2_SLOTS * (row - 1) + j)
         ≡ slice_index frame.now (place_of LINE_COLUMNS row (17 + (OTU2_SLOTS * j + k))) }
     ensures others { (k other j : ℕ) → k < OTU2_SLOTS → 1 ≤ other → other ≤ ROWS → (other < row) ⊎ (row < other)
         → j < PAYLOAD_COLUMNS / OTU2_SLOTS

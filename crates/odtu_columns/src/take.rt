@@ -38,8 +38,8 @@ pub trait TakeFrame: Drop {
         ensures { into.new ≡ run_groups (slots_of slots.now.kind)
             (payload_row_of LINE_COLUMNS row (bytes self.now)) slots.now.list first count };
 
-    /// The bytes of these slots in the frame, where they are one slot alone and its bytes stand together: those of row 1,
-    /// then those of row 2, and so on. Else nothing.
+    /// The bytes of these slots in the frame, where they are one slot alone and its bytes stand together: those of
+    /// row 1, then those of row 2, and so on. Else nothing.
     fn own_bytes(&self, slots: &Slots) -> Option<&[u8]>
         ensures one { IfSome result (λ own. length slots.now.list ≡ 1) }
         ensures size { IfSome result (λ own. length own.now ≡ ROWS * (PAYLOAD_COLUMNS / slots_of slots.now.kind)) }

@@ -16,8 +16,8 @@ row_data line_slots c before payload slots n =
     flat_map (λ x. if is_data_at c (before + x + 1) then payload_group line_slots payload slots x else [])
     (range_with_len 0 n)
 
--- The bytes of the data groups among these of one byte each, before which stand so many of the multiframe: they are those
--- of a row of a line that has one slot.
+-- The bytes of the data groups among these of one byte each, before which stand so many of the multiframe: they are
+-- those of a row of a line that has one slot.
 abbrev pub own_data : (c before : ℕ) → (own : List ℕ) → List ℕ
 own_data c before own = row_data 1 c before own (1 ∷ []) (length own)
 
