@@ -1,5 +1,5 @@
-// The bytes of the data groups of a row, out of its payload columns, and those of a frame where each is one byte and all
-// stand together.
+// The bytes of the data groups of a row, out of its payload columns, and those of a frame where each is one byte and
+// all stand together.
 ghost use Rattle.std.specs.Prelude.{◌≡◌, ◌+◌, ◌*◌, ◌<◌, ◌≤◌, ◌++◌, [], ◌∷◌, if◌then◌else◌, length, take};
 ghost use Rattle.frame_geometry.specs.Places.{payload_row_of};
 ghost use Rattle.gmp_rule.specs.DataRule.{is_data_at};
@@ -168,9 +168,9 @@ fn put_few<F: TakeFrame>(
     end
 }
 
-/// Writes the data groups among these of one byte each, one after the other, to `into` at `at`, and says where they end.
-/// What stands before them stays. The next group that the runner is asked about is the first of them. The runner is taken
-/// out of its place for that, so that the loop keeps it in registers.
+/// Writes the data groups among these of one byte each, one after the other, to `into` at `at`, and says where they
+/// end. What stands before them stays. The next group that the runner is asked about is the first of them. The runner
+/// is taken out of its place for that, so that the loop keeps it in registers.
 #[tactic(auto, using(crate::proofs::Rows::row_steps))]
 pub(crate) fn take_own(runner: &mut Runner, own: &[u8], into: &mut [u8], at: usize) -> usize
     requires room { at + length own.now ≤ length into.old }
@@ -229,6 +229,9 @@ fn put_bytes(own: &[u8], first: usize, count: usize, into: &mut [u8], at: usize)
     ensures end { result ≡ at + count }
     ensures bytes { take result into.new ≡ take at into.old ++ run_groups 1 own.now (1 ∷ []) first count }
 {
+    if count == 0 {
+        return at;
+    }
     let end = at + count;
     into[at..end].copy_from_slice(&own[first..first + count]);
     end
