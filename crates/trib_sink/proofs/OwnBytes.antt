@@ -1,5 +1,5 @@
 -- The data groups of a frame where each is one byte, and all stand together.
-use Rattle.std.proofs.Common.{◌≡◌, ℕ, zero, suc, ◌+◌, ◌-◌, ◌*◌, ◌<◌, ◌≤◌, List, [], ◌∷◌, ◌++◌, cond, length, get_or, take, drop, refl, ap, sym, ◌∙◌, arith, append_assoc}
+use Rattle.std.proofs.Common.{◌≡◌, ℕ, zero, suc, ◌+◌, ◌-◌, ◌*◌, ◌<◌, ◌≤◌, List, [], ◌∷◌, ◌++◌, cond, length, get_or, take, drop, refl, ap, sym, ◌∙◌, arith, append-nil, append_assoc}
 use Rattle.std.specs.Prelude.{slice_set}
 use Rattle.std.specs.List.{range_with_len, flat_map}
 use Rattle.std.proofs.lemmas.List.{get_or-take, get_or-drop, length-drop, length-take-le}
@@ -8,7 +8,7 @@ use Rattle.frame_geometry.specs.Places.{payload_row_of}
 use Rattle.gmp_rule.specs.DataRule.{is_data_at}
 use Rattle.odtu_columns.specs.Payload.{payload_group, run_groups}
 use Rattle.odtu_columns.proofs.Cycles.{range-append}
-use Rattle.odtu_columns.proofs.RunGroups.{run_is}
+use Rattle.odtu_columns.proofs.RunGroups.{run_groups-none, run_is}
 use Rattle.otn_base.specs.LineSlots.{LineSlots, slots_of}
 use Rattle.trib_sink.specs.Rows.{row_cycles}
 use Rattle.trib_sink.specs.Steps.Rows.{row_data, own_data, frame_row_data, with_frame}
@@ -20,6 +20,10 @@ one_behind (x ∷ into) zero byte room = refl
 one_behind (x ∷ into) (suc at) byte room =
     ap (λ n. take n (x ∷ slice_set into at byte)) (let e : suc at + 1 ≡ suc (at + 1) = omega arith in e)
     ∙ ap (λ ys. x ∷ ys) (one_behind into at byte (omega arith))
+
+-- none of the bytes
+pub no_run : (own front : List ℕ) (first count : ℕ) → count ≡ 0 → front ≡ front ++ run_groups 1 own (1 ∷ []) first count
+no_run own front first count e = sym (ap (λ n. front ++ run_groups 1 own (1 ∷ []) first n) e ∙ ap (λ ys. front ++ ys) (run_groups-none 1 own (1 ∷ []) first) ∙ append-nil front)
 
 -- some of the bytes, as the groups of a run of cycles
 pub own_run : (own new : List ℕ) (first count : ℕ) → first + count ≤ length own → new ≡ take (first + count - first) (drop first own) → new ≡ run_groups 1 own (1 ∷ []) first count

@@ -229,6 +229,9 @@ fn put_bytes(own: &[u8], first: usize, count: usize, into: &mut [u8], at: usize)
     ensures end { result ≡ at + count }
     ensures bytes { take result into.new ≡ take at into.old ++ run_groups 1 own.now (1 ∷ []) first count }
 {
+    if count == 0 {
+        return at;
+    }
     let end = at + count;
     into[at..end].copy_from_slice(&own[first..first + count]);
     end

@@ -1,7 +1,10 @@
 use Rattle.std.proofs.Common.{◌≡◌, ◌+◌, ◌-◌, ◌++◌, length, take, ap, ◌∙◌, arith}
 use Rattle.trib_sink.proofs.Runs.{behind}
-use Rattle.trib_sink.proofs.OwnBytes.{own_run}
+use Rattle.trib_sink.proofs.OwnBytes.{no_run, own_run}
 use Rattle.trib_sink.proofs.extract.put_bytes.Goals as goal
+
+pub returns-then-count-eq0-clause-bytes : goal.returns-then-count-eq0-clause-bytes
+returns-then-count-eq0-clause-bytes c = no_run c.args.own.now (take c.args.at c.args.into.now) c.args.first c.args.count c.if-count-eq0.true
 
 pub returns-clause-bytes : goal.returns-clause-bytes
 returns-clause-bytes c =
