@@ -46,5 +46,5 @@ AreAligned = (m n : ℕ) (past : List BothTurn) → 0 < m
 abbrev pub CompletesNoMore : Type 0
 CompletesNoMore = (m n most : ℕ) (now : BothTurn) (past : List BothTurn) → 0 < m
     → emitted_by_side (choice_in m n now past).side (now ∷ past) / m
-        ≤ emitted_by_side (choice_in m n now past).side past / m + most
+    ≤ emitted_by_side (choice_in m n now past).side past / m + most
     → (selection m n (now ∷ past)).due / m ≤ (selection m n past).due / m + most
