@@ -1,5 +1,5 @@
 -- What places gave and got, from one moment to the next, adds up.
-use Rattle.std.proofs.Common.{◌^◌, ◌<◌, ◌-◌, ◌≡◌, ◌≢◌, ◌≤◌, ◌+◌, ◌∙◌, ℕ, true, false, List, [], ◌∷◌, ◌++◌, Option, Some, None, length, take, arith, refl, sym, ap, inl, inr, append-nil, length-append}
+use Rattle.std.proofs.Common.{◌^◌, ◌<◌, ◌-◌, ◌≡◌, ◌≢◌, ◌≤◌, ◌+◌, ◌∙◌, ℕ, true, List, [], ◌∷◌, ◌++◌, Option, Some, None, length, take, arith, refl, sym, ap, inl, inr, append-nil, length-append}
 use Rattle.std.proofs.lemmas.List.{append_cancel_left, append_cancel_right}
 use Rattle.std.specs.Prelude.{unwrap_or}
 use Rattle.otn_ports.specs.Bytes.{before, after, HasFailed, raised}

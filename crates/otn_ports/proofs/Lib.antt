@@ -1,4 +1,6 @@
+pub mod AheadLaws
 pub mod BaysLaws
+pub mod FrontLaws
 pub mod GivenLaws
 pub mod Lists
 pub mod OneOutPlace

@@ -1,4 +1,5 @@
 -- API: what is seen of the ports over readers and writers of the system: they tell no bytes.
+use Rattle.std.specs.Io.KnownBytes.{prepend_known}
 use Rattle.std.specs.Prelude.{◌≢◌, ℕ, Bool, List, Option, Some, None, is_some}
 use Rattle.std.specs.declared.io.ErrorKind.{ErrorKind}
 use Rattle.std.specs.declared.io.ErrorKind.TheVariants.{Interrupted}
@@ -31,9 +32,17 @@ reader_fault source = source.fault
 abbrev pub reader_ended : {R : Type 0} → ReaderSource R → Bool
 reader_ended source = source.ended
 
--- the bytes that its reader has yet
+-- the bytes that it has read ahead of what it gave
+abbrev pub reader_at_hand : {R : Type 0} → ReaderSource R → List ℕ
+reader_at_hand source = source.ahead.bytes
+
+-- why its reader refused to give more when it looked ahead, where no read has answered so yet
+abbrev pub reader_refused : {R : Type 0} → ReaderSource R → Option ErrorKind
+reader_refused source = source.ahead.refused
+
+-- the bytes that it has yet: those at hand, and then those that its reader has, where it tells them
 abbrev pub reader_bytes : {R : Type 0} → (R → Option (List ℕ)) → ReaderSource R → Option (List ℕ)
-reader_bytes remaining source = told_by remaining source.reader
+reader_bytes remaining source = prepend_known source.ahead.bytes (told_by remaining source.reader)
 
 -- whether it has a writer
 abbrev pub has_writer : {W : Type 0} → WriterSink W → Bool

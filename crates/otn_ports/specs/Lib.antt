@@ -1,7 +1,9 @@
 pub mod Adapters
 pub mod Asked
+pub mod AtHand
 pub mod Bytes
 pub mod Choosing
+pub mod Fronts
 pub mod Given
 pub mod InPlace
 pub mod Listed
@@ -12,6 +14,7 @@ pub mod Places
 pub mod Ports
 pub mod PortViews
 pub mod Racks
+pub mod ReadAhead
 pub mod Reads
 pub mod Retiring
 pub mod Sent

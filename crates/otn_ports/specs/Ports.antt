@@ -14,6 +14,11 @@ abbrev pub in_left : {X : Type 0} {F : X → Type 0} → (DynBox X Global F → 
 in_left left (input.Boxed b) = left b
 in_left left (input.Held m) = Some (memory_left m)
 
+-- the bytes that what an input port holds has at hand: a source in memory has none
+abbrev pub in_at_hand : {X : Type 0} {F : X → Type 0} → (DynBox X Global F → List ℕ) → InPort X F → List ℕ
+in_at_hand at_hand (input.Boxed b) = at_hand b
+in_at_hand at_hand (input.Held m) = []
+
 -- whether what an input port holds has answered that it ended
 abbrev pub in_ended : {X : Type 0} {F : X → Type 0} → (DynBox X Global F → Bool) → InPort X F → Bool
 in_ended ended (input.Boxed b) = ended b

@@ -30,11 +30,12 @@ pub fn write_whole<K: Sink>(sink: &mut K, bytes: &[u8]) -> Written
     if bytes.is_empty() {
         return Written::Whole;
     }
-    drain(sink, bytes).0
+    write_counted(sink, bytes).0
 }
 
-/// Writes until all bytes are out or a call fails, and says how many went.
-fn drain<K: Sink>(sink: &mut K, bytes: &[u8]) -> (Written, usize)
+/// Writes to a sink that stands in no place until all bytes are out or a call fails, and says how many went: they are
+/// the first.
+pub fn write_counted<K: Sink>(sink: &mut K, bytes: &[u8]) -> (Written, usize)
     ensures within { result.1 ≤ length bytes.now }
     ensures bytes { K.got sink.new ≡ after (K.got sink.old) (take result.1 bytes.now) }
     ensures writing { IsWriting result.0 result.1 (length bytes.now) }
@@ -60,7 +61,7 @@ pub(crate) fn drain_counted<K: Sink>(port: &mut K, number: &mut u64, bytes: &[u8
         (live_out K.Sink port.new number.new) }
     ensures well { result ≢ Written.Lost → K.faults port.new ≡ K.faults port.old }
 {
-    let (answer, written) = drain(port, bytes);
+    let (answer, written) = write_counted(port, bytes);
     *number = number.saturating_add(written as u64);
     answer
 }

@@ -1,11 +1,13 @@
 // A place for an input: it is empty, its port is live, or its port has failed and is called no more.
-ghost use Rattle.std.specs.Prelude.{◌≡◌, ◌≢◌, length};
+ghost use Rattle.std.specs.Prelude.{◌≡◌, ◌≢◌, ◌<◌, ◌≤◌, length, take};
+ghost use Rattle.otn_ports.specs.Fronts.{IsFront};
 ghost use Rattle.otn_ports.specs.InPlace.{dead_in};
 ghost use Rattle.otn_ports.specs.Retiring.{retired_in};
-ghost use Rattle.otn_ports.specs.Reads.{Reads, state_after, idle_reading};
+ghost use Rattle.otn_ports.specs.Reads.{Reads, Takes, state_after, idle_reading};
 ghost use Rattle.otn_ports.specs.Views.{Live, Dead};
 
 use crate::{InPort, Sealed, Source, read_whole};
+use std::alloc::Global;
 use std::mem;
 
 /// How a read of a whole slice ended: the slice is full, the input ended after so many bytes and
@@ -30,6 +32,7 @@ pub enum InPlaceOf<P> {
 pub type InPlace = InPlaceOf<InPort>;
 
 impl<P: Source> InPlaceOf<P> {
+    ghost use Rattle.otn_ports.specs.AtHand.{place_at_hand};
     ghost use Rattle.otn_ports.specs.InPlace.{in_view};
 
     /// A dead place with this port, of which so many bytes were taken.
@@ -68,6 +71,43 @@ impl<P: Source> InPlaceOf<P> {
             self.die();
         }
         reading
+    }
+
+    /// Looks ahead at what the place gives next, and gives nothing. A place that is not live calls nothing.
+    pub fn look_ahead(&mut self, alloc: Global)
+        ensures view { in_view P.Source self.new ≡ in_view P.Source self.old }
+        ensures idle { (in_view P.Source self.old).state ≢ Live → self.new ≡ self.old }
+    {
+        if let InPlaceOf::Live(port, _) = self {
+            port.look_ahead(alloc);
+        }
+    }
+
+    /// Lends bytes at hand, from the front: all, some of them or none. A place that is not live has none.
+    pub fn peek(&self) -> &[u8]
+        ensures front { IsFront result.now (place_at_hand P.Source self.now) }
+    {
+        if let InPlaceOf::Live(port, _) = self {
+            port.peek()
+        } else {
+            &[]
+        }
+    }
+
+    /// Goes past so many of the bytes at hand, and counts them as a read that gives them does.
+    pub fn pass(&mut self, n: usize)
+        requires some { 0 < n }
+        requires hand { n ≤ length (place_at_hand P.Source self.old) }
+        ensures passed { Takes (in_view P.Source self.old) (take n (place_at_hand P.Source self.old))
+            (in_view P.Source self.new) }
+        ensures state { (in_view P.Source self.new).state ≡ (in_view P.Source self.old).state }
+        ensures ended { (in_view P.Source self.new).ended ≡ (in_view P.Source self.old).ended }
+        ensures faults { (in_view P.Source self.new).faults ≡ (in_view P.Source self.old).faults }
+    {
+        if let InPlaceOf::Live(port, number) = self {
+            port.pass(n);
+            *number = number.saturating_add(n as u64);
+        }
     }
 
     /// A live place becomes empty, and its port is dropped. An empty or a dead place stays.

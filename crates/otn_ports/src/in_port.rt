@@ -1,10 +1,11 @@
 // A source behind a box, or one in memory.
 ghost use Rattle.std.specs.Prelude.{◌≡◌, ◌<◌, ◌≤◌, Ok, false, IfOk, OnOk, OnErr, length, min};
 ghost use Rattle.otn_ports.specs.Bytes.{before, read_by, HasFailed};
-ghost use Rattle.otn_ports.specs.Ports.{in_left, in_ended, in_faults, is_in_boxed, held_left};
+ghost use Rattle.otn_ports.specs.Ports.{in_at_hand, in_left, in_ended, in_faults, is_in_boxed, held_left};
 ghost use Rattle.otn_ports.specs.Reads.{HasEnded, ended_after};
 
 use crate::{Failed, MemSource, Source};
+use std::alloc::Global;
 
 /// What an input place holds. Each call on it, and each of its meanings, is that of what it holds.
 #[derive(Drop)]
@@ -22,6 +23,8 @@ impl Source for InPort {
 
     ghost boxed = { is_in_boxed };
 
+    ghost at_hand = { in_at_hand (λ b. (Source-box b).at_hand b.value) };
+
     fn read(&mut self, into: &mut [u8]) -> Result<usize, Failed>
         ensures bound { IfOk result (λ n. n ≤ length into.old) }
         ensures bytes { in_left left self.old ≡ before (read_by result into.new) (in_left left self.new) }
@@ -37,6 +40,27 @@ impl Source for InPort {
         match self {
             InPort::Boxed(source) => source.read(into),
             InPort::Held(source) => source.read(into),
+        }
+    }
+
+    fn look_ahead(&mut self, alloc: Global) {
+        match self {
+            InPort::Boxed(source) => source.look_ahead(alloc),
+            InPort::Held(_) => {}
+        }
+    }
+
+    fn peek(&self) -> &[u8] {
+        match self {
+            InPort::Boxed(source) => source.peek(),
+            InPort::Held(_) => &[],
+        }
+    }
+
+    fn pass(&mut self, n: usize) {
+        match self {
+            InPort::Boxed(source) => source.pass(n),
+            InPort::Held(_) => {}
         }
     }
 }

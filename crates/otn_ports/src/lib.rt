@@ -5,6 +5,7 @@
 //! - `listed_source`, `listed_sink`: ports in memory that fail at listed calls, counted by `listed_calls`.
 //! - `spoiled_source`: a source that spoils bytes of another by `masks` of their places.
 //! - `reader_source`, `writer_sink`: ports over the system's files and output.
+//! - `ahead`: what a source over a reader has read ahead.
 //! - `in_port`, `out_port`: a port behind a box, or one in memory.
 //! - `in_place`, `out_place`: a place with its port, which reads and writes whole slices; `sealed`: the port of a dead
 //!   one.
@@ -21,6 +22,7 @@
 //! from then on, and its port, sealed, is asked nothing more.
 #![tactic(auto)]
 
+mod ahead;
 mod asking;
 mod bays;
 mod chooser;
@@ -50,7 +52,7 @@ pub use asking::ask_byte;
 pub use bays::{Bays, Rack};
 pub use chooser::{Chooser, FirstReady};
 pub use dead_places::{is_dead_in, is_dead_out};
-pub use drain::{Written, write_whole};
+pub use drain::{Written, write_counted, write_whole};
 pub use ended::Ended;
 pub use fill::read_whole;
 pub use in_place::{InPlace, InPlaceOf, Reading};

@@ -71,4 +71,6 @@ impl Source for ListedSource {
         let room = into.len().min(self.most);
         self.source.read(&mut into[..room])
     }
+
+    fn pass(&mut self, _n: usize) {}
 }

@@ -52,4 +52,6 @@ impl Source for MemSource {
         self.ended |= n == 0 && !into.is_empty();
         Ok(n)
     }
+
+    fn pass(&mut self, _n: usize) {}
 }

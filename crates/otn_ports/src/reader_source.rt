@@ -1,10 +1,12 @@
 // A source over a reader of the system, such as a file.
-ghost use Rattle.std.specs.Prelude.{◌≡◌, ◌<◌, ◌≤◌, false, true, None, Ok, OnErr, IfOk, IsErr, is_some, length};
+ghost use Rattle.std.specs.Prelude.{◌≡◌, ◌<◌, ◌≤◌, false, true, None, Ok, OnErr, IfOk, IsErr, IsSome, is_some, length, take};
 ghost use Rattle.otn_ports.specs.Bytes.{faults_after, HasFailed};
 ghost use Rattle.otn_ports.specs.Reads.{ended_after};
 
-use crate::system::{count, read_some, refuse};
+use crate::ahead::Ahead;
+use crate::system::{count, refuse};
 use crate::{Failed, Source};
+use std::alloc::Global;
 use std::fs::File;
 use std::io::{ErrorKind, Read};
 
@@ -17,6 +19,7 @@ pub struct ReaderSource<R> {
     failed: u64,
     fault: Option<ErrorKind>,
     ended: bool,
+    ahead: Ahead,
 }
 
 /// Reads a file of the system.
@@ -36,6 +39,7 @@ impl FileSource {
             failed: 0,
             fault: None,
             ended: false,
+            ahead: Ahead::new(),
         }
     }
 }
@@ -54,13 +58,15 @@ impl<R> ReaderSource<R> {
             failed: 0,
             fault: None,
             ended: false,
+            ahead: Ahead::new(),
         }
     }
 }
 
 impl<R: Read + Drop> Source for ReaderSource<R> {
-    ghost use Rattle.std.specs.Io.KnownBytes.{ReadConsumes};
-    ghost use Rattle.otn_ports.specs.Adapters.{IsFault, reader_fault, reader_faults, reader_ended, has_reader, reader_bytes};
+    ghost use Rattle.std.specs.Io.KnownBytes.{Consumes, Keeps, ReadConsumes};
+    ghost use Rattle.otn_ports.specs.Adapters.{IsFault, reader_fault, reader_faults, reader_ended, has_reader, reader_bytes, reader_at_hand, reader_refused};
+    ghost use Rattle.otn_ports.specs.ReadAhead.{RefusalAfter};
 
     ghost left = { λ _. None };
 
@@ -68,9 +74,12 @@ impl<R: Read + Drop> Source for ReaderSource<R> {
 
     ghost ended = { reader_ended };
 
+    ghost at_hand = { reader_at_hand };
+
     /// One call of the reader, or none for a slice with no room. What it answers is what the
     /// reader gave, as far as the reader tells. It fails where the system refuses a read, but for one that a signal
-    /// interrupts: that is made again.
+    /// interrupts: that is made again. Bytes at hand come first, and without a call of the reader. Where there are
+    /// none, a refusal that a look ahead met is answered in place of a call.
     fn read(&mut self, into: &mut [u8]) -> Result<usize, Failed>
         ensures bound { IfOk result (λ n. n ≤ length into.old) }
         ensures system { ReadConsumes (reader_bytes R.remaining self.old)
@@ -83,16 +92,55 @@ impl<R: Read + Drop> Source for ReaderSource<R> {
         ensures closed { has_reader self.old ≡ false → 0 < length into.old → IsErr result }
         ensures empty { length into.old ≡ 0 → (self.new ≡ self.old) × (result ≡ Ok 0) }
         ensures reader { has_reader self.new ≡ has_reader self.old }
+        ensures held { has_reader self.old ≡ true → 0 < length into.old → RefusalAfter (reader_refused self.old)
+            (reader_at_hand self.old) result (reader_fault self.new) (reader_refused self.new) }
     {
         if into.is_empty() {
             return Ok(0);
         }
         let answer = match &mut self.reader {
-            Some(reader) => read_some(reader, &mut self.fault, into),
+            Some(reader) => self.ahead.read(reader, &mut self.fault, into),
             None => Err(refuse(&mut self.fault, ErrorKind::NotFound)),
         };
         count(&mut self.failed, answer);
         self.ended |= answer == Ok(0);
         answer
+    }
+
+    /// Asks its reader for the bytes of eight frames of a line, by one call, where nothing is at hand. Where the system
+    /// refuses that call, the next read answers so. Without memory for these bytes, or without a reader, nothing is
+    /// asked.
+    fn look_ahead(&mut self, alloc: Global)
+        ensures system { Keeps (reader_bytes R.remaining self.old) (reader_bytes R.remaining self.new) }
+        ensures faults { reader_faults self.new ≡ reader_faults self.old }
+        ensures ended { reader_ended self.new ≡ reader_ended self.old }
+        ensures fault { reader_fault self.new ≡ reader_fault self.old }
+        ensures reader { has_reader self.new ≡ has_reader self.old }
+        ensures hand { 0 < length (reader_at_hand self.old) → self.new ≡ self.old }
+        ensures held { IsSome (reader_refused self.old) → self.new ≡ self.old }
+    {
+        if let Some(reader) = &mut self.reader {
+            self.ahead.fill(alloc, reader);
+        }
+    }
+
+    fn peek(&self) -> &[u8]
+        ensures { result.now ≡ reader_at_hand self.now }
+    {
+        self.ahead.bytes()
+    }
+
+    #[tactic(auto, using(crate::proofs::AheadLaws::consumes_front))]
+    fn pass(&mut self, n: usize)
+        requires some { 0 < n }
+        requires hand { n ≤ length (reader_at_hand self.old) }
+        ensures system { Consumes (reader_bytes R.remaining self.old) (reader_bytes R.remaining self.new)
+            (take n (reader_at_hand self.old)) }
+        ensures faults { reader_faults self.new ≡ reader_faults self.old }
+        ensures ended { reader_ended self.new ≡ reader_ended self.old }
+        ensures fault { reader_fault self.new ≡ reader_fault self.old }
+        ensures reader { has_reader self.new ≡ has_reader self.old }
+    {
+        self.ahead.pass(n);
     }
 }

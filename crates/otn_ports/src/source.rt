@@ -1,7 +1,10 @@
 // A port that gives bytes, and may fail at any call.
-ghost use Rattle.std.specs.Prelude.{◌≡◌, ◌<◌, ◌≤◌, ℕ, Bool, false, List, Option, length, IfOk, OnOk, OnErr, Ok};
+ghost use Rattle.std.specs.Prelude.{◌≡◌, ◌<◌, ◌≤◌, ℕ, Bool, false, List, [], Option, length, take, IfOk, OnOk, OnErr, Ok};
+ghost use Rattle.otn_ports.specs.Fronts.{IsFront};
 ghost use Rattle.otn_ports.specs.Bytes.{before, read_by, HasFailed};
 ghost use Rattle.otn_ports.specs.Reads.{HasEnded, ended_after};
+
+use std::alloc::Global;
 
 /// A call of a port failed.
 #[derive(Clone, Copy, Debug, PartialEq, Eq)]
@@ -21,6 +24,9 @@ pub trait Source: Drop {
     /// Whether it is a port behind a box.
     ghost boxed: { Self → Bool } = { λ _. false };
 
+    /// The bytes at hand: what the source has read ahead of what it gave, and gives next. Most sources have none.
+    ghost at_hand: { Self → List ℕ } = { λ _. [] };
+
     /// Puts the next bytes at the front of the slice, and answers how many. None came for a slice
     /// with room only where the source has ended. What is behind them in the slice is open.
     /// Failed comes only where the count of faults rose in this call or stands at its end, and
@@ -33,5 +39,30 @@ pub trait Source: Drop {
         ensures later { faults self.old ≤ faults self.new }
         ensures cause { OnErr result (HasFailed (faults self.old) (faults self.new)) }
         ensures well { OnOk result (faults self.new ≡ faults self.old) }
+        ensures same { boxed self.new ≡ boxed self.old };
+
+    /// Looks ahead: where it has no bytes at hand, it may get some by one call of what it reads, into room that it asks
+    /// for once. Nothing is given by this call, and none of its failures is an answer: a read meets it.
+    fn look_ahead(&mut self, alloc: Global)
+        ensures left { left self.new ≡ left self.old }
+        ensures faults { faults self.new ≡ faults self.old }
+        ensures ended { ended self.new ≡ ended self.old }
+        ensures same { boxed self.new ≡ boxed self.old }
+    {}
+
+    /// Lends bytes at hand, from the front: all, some of them or none.
+    fn peek(&self) -> &[u8]
+        ensures front { IsFront result.now (at_hand self.now) }
+    {
+        &[]
+    }
+
+    /// Goes past so many of the bytes at hand, as a read does that gives them.
+    fn pass(&mut self, n: usize)
+        requires some { 0 < n }
+        requires hand { n ≤ length (at_hand self.old) }
+        ensures bytes { left self.old ≡ before (take n (at_hand self.old)) (left self.new) }
+        ensures faults { faults self.new ≡ faults self.old }
+        ensures ended { ended self.new ≡ ended self.old }
         ensures same { boxed self.new ≡ boxed self.old };
 }

@@ -66,4 +66,6 @@ impl<S: Source> Source for SpoiledSource<S> {
         self.at = self.at.saturating_add(n as u64);
         Ok(n)
     }
+
+    fn pass(&mut self, _n: usize) {}
 }

@@ -1,5 +1,5 @@
 // Calls of the system, each counted where it fails.
-ghost use Rattle.std.specs.Prelude.{◌≡◌, ◌≢◌, ◌<◌, ◌≤◌, false, true, IfOk, OnErr, length};
+ghost use Rattle.std.specs.Prelude.{◌≡◌, ◌≢◌, ◌<◌, ◌≤◌, false, true, Some, IfOk, OnErr, length};
 ghost use Rattle.std.specs.Io.KnownBytes.{ReadConsumes, WriteAppends};
 ghost use Rattle.otn_ports.specs.Adapters.{IsFault};
 ghost use Rattle.otn_ports.specs.Bytes.{faults_after, HasFailed};
@@ -20,6 +20,7 @@ pub(crate) fn is_made_again(kind: ErrorKind) -> bool
 pub(crate) fn refuse(fault: &mut Option<ErrorKind>, kind: ErrorKind) -> Failed
     requires fault { kind ≢ ErrorKind.Interrupted }
     ensures kept { IsFault fault.new }
+    ensures kind { fault.new ≡ Some kind }
 {
     *fault = Some(kind);
     Failed

@@ -1,6 +1,6 @@
 use Rattle.std.proofs.Common.{◌∙◌, arith, ◌≤◌, ◌-◌, length}
 use Rattle.otn_ports.proofs.TakenTwice.{sent_more}
-use Rattle.otn_ports.proofs.drain.drain.Goals as goal
+use Rattle.otn_ports.proofs.drain.write_counted.Goals as goal
 
 pub loop-done-preserved : goal.loop-done-preserved
 loop-done-preserved g c =

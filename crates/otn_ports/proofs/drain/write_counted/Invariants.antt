@@ -1,6 +1,6 @@
 use Rattle.std.proofs.Common.{length, ◌-◌, ◌≡◌, ◌≤◌, take}
 use Rattle.otn_ports.specs.Bytes.{after}
-use Rattle.otn_ports.proofs.drain.drain.Given as goal
+use Rattle.otn_ports.proofs.drain.write_counted.Given as goal
 
 abbrev pub invariant-loop-done : goal.invariant-loop-done
 invariant-loop-done g l = record {

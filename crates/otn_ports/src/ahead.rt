@@ -1,0 +1,173 @@
+// What a source over a reader has read ahead of what it gave.
+ghost use Rattle.std.specs.Prelude.{◌≡◌, ◌<◌, ◌≤◌, ◌++◌, [], None, IfOk, IfSome, IsSome, OnErr, length, drop, take, min, vec_len};
+ghost use Rattle.std.specs.Io.KnownBytes.{IsAtEnd, Keeps, ReadConsumes, prepend_known};
+ghost use Rattle.otn_ports.specs.Adapters.{IsFault};
+ghost use Rattle.otn_ports.specs.ReadAhead.{ReadAhead, nothing_ahead, IsRefusal, RefusalAfter};
+
+use crate::Failed;
+use crate::system::{read_some, refuse};
+use otn_base::limits::LINE_FRAME_BYTES;
+use std::alloc::{AllocError, Global};
+use std::io::{ErrorKind, Read};
+use std::marker::Model;
+
+// Bytes that a reader is asked for at a time: eight frames of a line.
+const BLOCK_BYTES: usize = 8 * LINE_FRAME_BYTES;
+
+/// The bytes at hand, which stand in a block, and a refusal that no read has answered yet. The block is made at the
+/// first look ahead.
+#[derive(Drop)]
+pub(crate) struct Ahead {
+    block: Option<Vec<u8>>,
+    from: usize,
+    to: usize,
+    refused: Option<ErrorKind>,
+}
+
+impl Model for Ahead {
+    ghost use Rattle.otn_ports.specs.ReadAhead.{ReadAhead, part_of, IsWithin, IsRefusal};
+
+    ghost Value = { ReadAhead };
+
+    ghost view = { λ a. record { bytes = part_of a.block a.from a.to; refused = a.refused } };
+
+    ghost invariant = { λ a. IsWithin a.block a.from a.to × IsRefusal a.refused };
+}
+
+impl Ahead {
+    /// Nothing is read ahead.
+    pub(crate) fn new() -> Ahead
+        ensures { result ≡ nothing_ahead }
+    {
+        Ahead {
+            block: None,
+            from: 0,
+            to: 0,
+            refused: None,
+        }
+    }
+
+    /// The bytes at hand.
+    pub(crate) fn bytes(&self) -> &[u8]
+        ensures { result.now ≡ self.now.bytes }
+    {
+        match &self.block {
+            Some(block) => &block[self.from..self.to],
+            None => &[],
+        }
+    }
+
+    /// Goes past so many of the bytes at hand.
+    #[tactic(auto, using(crate::proofs::AheadLaws::goes_past))]
+    pub(crate) fn pass(&mut self, n: usize)
+        requires { n ≤ length self.old.bytes }
+        ensures bytes { self.new.bytes ≡ drop n self.old.bytes }
+        ensures refused { self.new.refused ≡ self.old.refused }
+    {
+        self.from += n;
+    }
+
+    /// Looks ahead: where nothing is at hand and no refusal stands, it makes one read of this reader. Without memory
+    /// for the block it makes none.
+    pub(crate) fn fill<R: Read>(&mut self, alloc: Global, reader: &mut R)
+        ensures bytes { Keeps (prepend_known self.old.bytes (R.remaining reader.old))
+            (prepend_known self.new.bytes (R.remaining reader.new)) }
+        ensures hand { 0 < length self.old.bytes → (self.new ≡ self.old) × (reader.new ≡ reader.old) }
+        ensures held { IsSome self.old.refused → (self.new ≡ self.old) × (reader.new ≡ reader.old) }
+    {
+        if !self.bytes().is_empty() || self.refused.is_some() {
+            return;
+        }
+        if let Some(block) = block_of(alloc, self.block.take()) {
+            *self = read_ahead(reader, block);
+        }
+    }
+
+    /// Gives the bytes at hand, as many as fit. Where there are none it answers the refusal that stands, and else makes
+    /// one read of this reader.
+    pub(crate) fn read<R: Read>(
+        &mut self,
+        reader: &mut R,
+        fault: &mut Option<ErrorKind>,
+        into: &mut [u8],
+    ) -> Result<usize, Failed>
+        ensures bound { IfOk result (λ n. n ≤ length into.old) }
+        ensures fault { OnErr result (IsFault fault.new) }
+        ensures bytes { ReadConsumes (prepend_known self.old.bytes (R.remaining reader.old))
+            (prepend_known self.new.bytes (R.remaining reader.new)) result into.new }
+        ensures held { RefusalAfter self.old.refused self.old.bytes result fault.new self.new.refused }
+    {
+        if !self.bytes().is_empty() {
+            return Ok(self.give(into));
+        }
+        if let Some(kind) = self.take_refused() {
+            return Err(refuse(fault, kind));
+        }
+        read_some(reader, fault, into)
+    }
+
+    // Gives the bytes at hand, as many as fit.
+    fn give(&mut self, into: &mut [u8]) -> usize
+        ensures many { result ≡ min (length self.old.bytes) (length into.old) }
+        ensures bytes { take result into.new ++ self.new.bytes ≡ self.old.bytes }
+        ensures refused { self.new.refused ≡ self.old.refused }
+    {
+        let bytes = self.bytes();
+        let n = bytes.len().min(into.len());
+        into[..n].copy_from_slice(&bytes[..n]);
+        self.pass(n);
+        n
+    }
+
+    // Answers a refusal that stands, once.
+    fn take_refused(&mut self) -> Option<ErrorKind>
+        ensures refused { result ≡ self.old.refused }
+        ensures fault { IsRefusal result }
+        ensures bytes { self.new.bytes ≡ self.old.bytes }
+        ensures none { self.new.refused ≡ None }
+    {
+        self.refused.take()
+    }
+}
+
+// What one read of a reader puts at hand. A refusal is kept.
+fn read_ahead<R: Read>(reader: &mut R, mut block: Vec<u8>) -> Ahead
+    requires room { 0 < vec_len block }
+    ensures bytes { Keeps (R.remaining reader.old) (prepend_known result.bytes (R.remaining reader.new)) }
+    ensures end { result ≡ nothing_ahead → IsAtEnd (R.remaining reader.new) }
+{
+    let mut refused = None;
+    let to = match read_some(reader, &mut refused, &mut block) {
+        Ok(n) => n,
+        Err(Failed) => return Ahead {
+            block: Some(block),
+            from: 0,
+            to: 0,
+            refused,
+        },
+    };
+    Ahead {
+        block: Some(block),
+        from: 0,
+        to,
+        refused: None,
+    }
+}
+
+// The block to read into: the one that was made, or a new one.
+fn block_of(alloc: Global, block: Option<Vec<u8>>) -> Option<Vec<u8>>
+    requires { IfSome block (λ b. 0 < vec_len b) }
+    ensures { IfSome result (λ b. 0 < vec_len b) }
+{
+    match block {
+        Some(block) => Some(block),
+        None => room(alloc, BLOCK_BYTES).ok(),
+    }
+}
+
+// So many bytes.
+fn room(alloc: Global, n: usize) -> Result<Vec<u8>, AllocError>
+    ensures { IfOk result (λ bytes. vec_len bytes ≡ n) }
+{
+    vec![in alloc; 0u8; n]
+}
