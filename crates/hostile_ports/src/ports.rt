@@ -34,6 +34,8 @@ impl Source for InputSource {
             InputSource::Capture(source) => source.read(into),
         }
     }
+
+    fn pass(&mut self, _n: usize) {}
 }
 
 /// An input.
@@ -64,6 +66,8 @@ impl Source for InputPort {
         }
         answer
     }
+
+    fn pass(&mut self, _n: usize) {}
 }
 
 /// The file of an output. It takes what its sink takes, or all there is where it has none, and fails where there is no

@@ -33,6 +33,8 @@ impl Source for FailsAfter {
         self.reads -= 1;
         self.source.read(into)
     }
+
+    fn pass(&mut self, _n: usize) {}
 }
 
 // The bytes of frames with these MFAS bytes, and others behind them. Byte 20 of a frame is its number.

@@ -30,6 +30,8 @@ impl Source for NamedSource {
         self.last.set(self.name);
         self.bytes.read(into)
     }
+
+    fn pass(&mut self, _n: usize) {}
 }
 
 fn zeros(alloc: Global, n: usize) -> Result<MemSource, Memory> {

@@ -57,4 +57,6 @@ impl<'a> Source for SliceSource<'a> {
         self.ended |= n == 0 && !into.is_empty();
         Ok(n)
     }
+
+    fn pass(&mut self, _n: usize) {}
 }

@@ -54,4 +54,6 @@ impl<S: Source> Source for PcapSource<S> {
         }
         Ok(count)
     }
+
+    fn pass(&mut self, _n: usize) {}
 }

@@ -1,5 +1,5 @@
 -- API: the meanings of a file's port are those of what it holds.
-use Rattle.std.specs.Prelude.{ℕ, Bool, false, List, Option}
+use Rattle.std.specs.Prelude.{ℕ, Bool, false, List, [], Option}
 use Rattle.otn_ports.specs.declared.sink.Sink.{Ghosts}
 use Rattle.pcap_packets.specs.Captures.{capture_left, capture_ended, capture_faults}
 use Rattle.pcap_packets.specs.Sinks.{written_got, written_faults}
@@ -12,6 +12,11 @@ use Rattle.program_words.specs.declared.ports.OutputPort.TheVariants as output
 abbrev pub input_left : {S : Type 0} → (S → Option (List ℕ)) → InputPort S → Option (List ℕ)
 input_left left (input.Plain source) = left source
 input_left left (input.Capture source) = capture_left left source
+
+-- the bytes at hand: a capture has none
+abbrev pub input_at_hand : {S : Type 0} → (S → List ℕ) → InputPort S → List ℕ
+input_at_hand at_hand (input.Plain source) = at_hand source
+input_at_hand at_hand (input.Capture source) = []
 
 -- whether it has answered that it ended
 abbrev pub input_ended : {S : Type 0} → (S → Bool) → InputPort S → Bool

@@ -1,9 +1,10 @@
 // The ports of files: their bytes as they are, or the packets of captures.
-ghost use Rattle.program_words.specs.Ports.{input_ended, input_faults, input_left, is_input_boxed};
+ghost use Rattle.program_words.specs.Ports.{input_at_hand, input_ended, input_faults, input_left, is_input_boxed};
 ghost use Rattle.program_words.specs.Ports.{is_output_boxed, output_faults, output_got, output_keeps};
 
 use otn_ports::{Failed, Sink, Source, Written};
 use pcap_packets::{PcapSink, PcapSource};
+use std::alloc::Global;
 
 /// What the place of an input file holds: the file as it is, or the capture that it has. Each call on it, and each of
 /// its meanings, is that of what it holds.
@@ -22,10 +23,32 @@ impl<S: Source> Source for InputPort<S> {
 
     ghost boxed = { is_input_boxed S.boxed };
 
+    ghost at_hand = { input_at_hand S.at_hand };
+
     fn read(&mut self, into: &mut [u8]) -> Result<usize, Failed> {
         match self {
             InputPort::Plain(source) => source.read(into),
             InputPort::Capture(source) => source.read(into),
+        }
+    }
+
+    fn look_ahead(&mut self, alloc: Global) {
+        if let InputPort::Plain(source) = self {
+            source.look_ahead(alloc);
+        }
+    }
+
+    fn peek(&self) -> &[u8] {
+        if let InputPort::Plain(source) = self {
+            source.peek()
+        } else {
+            &[]
+        }
+    }
+
+    fn pass(&mut self, n: usize) {
+        if let InputPort::Plain(source) = self {
+            source.pass(n);
         }
     }
 }

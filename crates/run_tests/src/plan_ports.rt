@@ -39,6 +39,8 @@ impl Source for NamedSource {
         call(&self.first, CLIENT);
         self.bytes.read(into)
     }
+
+    fn pass(&mut self, _n: usize) {}
 }
 
 /// An output that leaves its name, and takes all.

@@ -44,6 +44,8 @@ impl Source for FailsAt {
         }
         self.inner.read(into)
     }
+
+    fn pass(&mut self, _n: usize) {}
 }
 
 /// What a run answered, what it wrote, how many bytes it took of its line, and whether the line died.
