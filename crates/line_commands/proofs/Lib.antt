@@ -1,3 +1,4 @@
+pub mod Hands
 pub mod LineFrames
 pub mod PullCarried
 pub mod PullDamaged
@@ -7,6 +8,8 @@ pub mod PullLoop
 pub mod PullTable
 pub mod PullTurns
 pub mod PullWorlds
+pub mod SlotBatches
+pub mod SlotFrames
 pub mod SlotLoop
 pub mod SlotSteps
 pub mod SlotTable

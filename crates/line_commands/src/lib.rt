@@ -5,6 +5,7 @@
 //! - `laws`: that nothing else on a line changes what they write, and that a client's bytes come out as they went in.
 #![tactic(auto)]
 
+mod frames_at_hand;
 mod laws;
 mod pull;
 mod slot;

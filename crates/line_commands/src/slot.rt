@@ -1,28 +1,29 @@
 // The command `slot`: the payload bytes of one tributary slot of each whole frame of a line.
-ghost use Rattle.std.specs.Prelude.{◌≡◌, ◌≢◌, ◌/◌, ◌≤◌, Some, length};
-ghost use Rattle.otn_base.specs.declared.limits.TheConstants.{GROUPS, OTU2_SLOTS};
+ghost use Rattle.std.specs.Prelude.{◌≡◌, ◌≢◌, ◌*◌, ◌/◌, ◌<◌, ◌≤◌, ℕ, Some, length};
+ghost use Rattle.otn_base.specs.declared.limits.TheConstants.{GROUPS, LINE_FRAME_BYTES, OTU2_SLOTS};
 ghost use Rattle.otn_ports.specs.InPlace.{in_view};
 ghost use Rattle.otn_ports.specs.Views.{Dead};
 ghost use Rattle.otn_ports.specs.PortViews.{sink_view};
 ghost use Rattle.command_base.specs.Ends.{ReportAfter};
 ghost use Rattle.command_base.specs.Steps.Ends.{step_of};
-ghost use Rattle.line_commands.specs.SlotReport.{slot_bytes};
+ghost use Rattle.otn_ports.specs.AtHand.{place_at_hand};
+ghost use Rattle.line_commands.specs.SlotReport.{slot_bytes_until};
 ghost use Rattle.line_commands.specs.SlotRuns.{SlotEnded};
-ghost use Rattle.line_commands.specs.Steps.SlotRuns.{SlotStep, SlotWritten};
+ghost use Rattle.line_commands.specs.Steps.SlotRuns.{FramesStep, SlotStep, SlotWritten, progress_of, end_of};
+ghost use Rattle.line_commands.specs.declared.frames_at_hand.TheConstants.{FRAMES_AT_A_TIME};
 
+use crate::frames_at_hand::{FRAMES_AT_A_TIME, SLOT_BYTES, gather_frames, gather_slot};
 use command_base::ask_for_more;
 use frame_geometry::Frame;
-use odtu_columns::slot_row;
-use otn_base::LineKind;
-use otn_base::limits::{GROUPS, LINE_COLUMNS, MOST_FRAMES, OTU2_SLOTS, PAYLOAD_COLUMNS};
-use otn_ports::{Ended, InPlaceOf, Reading, Sink, Source, Written, write_whole};
+use otn_base::limits::{LINE_COLUMNS, LINE_FRAME_BYTES, MOST_FRAMES};
+use otn_ports::{Ended, InPlaceOf, Reading, Sink, Source, Written, write_counted, write_whole};
 use std::alloc::Global;
 
-// Bytes of a slot in a row of an OTU2 frame.
-const ROW_BYTES: usize = PAYLOAD_COLUMNS / OTU2_SLOTS;
-
-// Bytes of a slot in an OTU2 frame.
-const SLOT_BYTES: usize = GROUPS / OTU2_SLOTS;
+// How far a step came: so many frames are written, or the command ends.
+enum Progress {
+    Frames(usize),
+    Stopped(Ended),
+}
 
 /// Writes the 1,904 payload bytes of the slot, 1 to 8, row by row, of each whole frame that the
 /// line gives, of 131,072 frames at most, and then asks the line for one byte more. A write that fails
@@ -46,11 +47,12 @@ pub fn write_slot<I: Source, K: Sink>(
     if let InPlaceOf::Dead(..) = line {
         return Ended::Cut;
     }
-    write_frames(&mut frame, slot, line, report)
+    write_frames(alloc, &mut frame, slot, line, report)
 }
 
 // The same, with a frame to read into and a line that is not dead.
 fn write_frames<I: Source, K: Sink>(
+    alloc: Global,
     frame: &mut Frame<LINE_COLUMNS>,
     slot: u8,
     line: &mut InPlaceOf<I>,
@@ -63,12 +65,74 @@ fn write_frames<I: Source, K: Sink>(
         (K.got report.new) result }
     ensures report { ReportAfter (Some result) (sink_view K.Sink report.old) (sink_view K.Sink report.new) }
 {
-    for _ in 0..MOST_FRAMES {
-        if let Some(ended) = write_frame(frame, slot, line, report) {
-            return ended;
+    let mut bytes = [0; FRAMES_AT_A_TIME * SLOT_BYTES];
+    let mut left = MOST_FRAMES;
+    while left > 0 {
+        match write_some(alloc, frame, &mut bytes, slot, left, line, report) {
+            Progress::Frames(frames) => left -= frames,
+            Progress::Stopped(ended) => return ended,
         }
     }
     ask_for_more(line)
+}
+
+// Some frames, so many at most: those at hand, 8 at a time at most, by one write; where not one is at hand whole, one
+// that is read.
+fn write_some<I: Source, K: Sink>(
+    alloc: Global,
+    frame: &mut Frame<LINE_COLUMNS>,
+    bytes: &mut [u8],
+    slot: u8,
+    most: usize,
+    line: &mut InPlaceOf<I>,
+    report: &mut K,
+) -> Progress
+    requires low { 1 ≤ slot }
+    requires high { slot ≤ OTU2_SLOTS }
+    requires room { length bytes.old ≡ FRAMES_AT_A_TIME * (GROUPS / OTU2_SLOTS) }
+    requires most { 0 < most }
+    requires alive { (in_view I.Source line.old).state ≢ Dead }
+    ensures step { FramesStep slot most (in_view I.Source line.old) (in_view I.Source line.new) (K.got report.old)
+        (K.got report.new) result }
+    ensures report { ReportAfter (end_of result) (sink_view K.Sink report.old) (sink_view K.Sink report.new) }
+{
+    line.look_ahead(alloc);
+    let frames = gather_frames(line.peek(), slot, most, bytes);
+    if frames == 0 {
+        return after_frame(write_frame(frame, slot, line, report));
+    }
+    write_gathered(&bytes[..frames * SLOT_BYTES], frames, line, report)
+}
+
+// Writes the slot's bytes of so many frames at hand, and then goes past the frames; where the write fails, up to the
+// end of the frame in which it did.
+fn write_gathered<I: Source, K: Sink>(
+    bytes: &[u8],
+    frames: usize,
+    line: &mut InPlaceOf<I>,
+    report: &mut K,
+) -> Progress
+    requires some { 0 < frames }
+    requires few { frames ≤ FRAMES_AT_A_TIME }
+    requires hand { frames * LINE_FRAME_BYTES ≤ length (place_at_hand I.Source line.old) }
+    requires size { length bytes.now ≡ frames * (GROUPS / OTU2_SLOTS) }
+    ensures step { (slot most : ℕ) → 1 ≤ slot → slot ≤ OTU2_SLOTS → frames ≤ most
+        → bytes.now ≡ slot_bytes_until slot (place_at_hand I.Source line.old) frames
+        → FramesStep slot most (in_view I.Source line.old) (in_view I.Source line.new) (K.got report.old)
+        (K.got report.new) result }
+    ensures report { ReportAfter (end_of result) (sink_view K.Sink report.old) (sink_view K.Sink report.new) }
+{
+    let (written, count) = write_counted(report, bytes);
+    match written {
+        Written::Whole => {
+            line.pass(frames * LINE_FRAME_BYTES);
+            Progress::Frames(frames)
+        }
+        Written::Lost => {
+            line.pass((count / SLOT_BYTES + 1) * LINE_FRAME_BYTES);
+            Progress::Stopped(Ended::ReportFault)
+        }
+    }
 }
 
 // One frame: None where the line gave a whole one and its slot is written, else how the command ends.
@@ -93,6 +157,16 @@ fn write_frame<I: Source, K: Sink>(
     }
 }
 
+// What comes after one frame.
+fn after_frame(ended: Option<Ended>) -> Progress
+    ensures { result ≡ progress_of ended }
+{
+    match ended {
+        None => Progress::Frames(1),
+        Some(ended) => Progress::Stopped(ended),
+    }
+}
+
 // What comes after a write.
 fn step_after(written: Written) -> Option<Ended>
     ensures { result ≡ step_of written }
@@ -111,25 +185,6 @@ fn write_slot_of<K: Sink>(frame: &Frame<LINE_COLUMNS>, slot: u8, report: &mut K)
     ensures report { ReportAfter (step_of result) (sink_view K.Sink report.old) (sink_view K.Sink report.new) }
 {
     let mut bytes = [0; SLOT_BYTES];
-    gather_slot(frame, slot, &mut bytes);
+    gather_slot(frame.as_bytes(), slot, &mut bytes);
     write_whole(report, &bytes)
-}
-
-// Puts the slot's bytes of the four rows of a frame one after another.
-fn gather_slot(frame: &Frame<LINE_COLUMNS>, slot: u8, into: &mut [u8])
-    requires low { 1 ≤ slot }
-    requires high { slot ≤ OTU2_SLOTS }
-    requires room { length into.old ≡ GROUPS / OTU2_SLOTS }
-    ensures { into.new ≡ slot_bytes slot frame.now }
-{
-    for row in 0..4_u32 {
-        let start = row as usize * ROW_BYTES;
-        slot_row(
-            frame,
-            LineKind::Otu2,
-            slot,
-            row + 1,
-            &mut into[start..start + ROW_BYTES],
-        );
-    }
 }
