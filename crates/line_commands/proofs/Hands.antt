@@ -1,5 +1,5 @@
 -- The bytes at hand of a place.
-use Rattle.std.proofs.Common.{◌≡◌, ◌<◌, ◌≤◌, ◌*◌, ◌+◌, ◌/◌, ◌∙◌, ℕ, List, [], length, take, refl, subst, arith}
+use Rattle.std.proofs.Common.{◌≡◌, ◌<◌, ℕ, length, refl, subst, arith}
 use Rattle.otn_ports.specs.InPlace.{in_view}
 use Rattle.otn_ports.specs.Views.{Live}
 use Rattle.otn_ports.specs.Writes.{IsWriting}

@@ -1,9 +1,9 @@
 -- The slot's bytes of some frames of a line at a time.
-use Rattle.std.proofs.Common.{◌≡◌, ◌<◌, ◌≤◌, ◌+◌, ◌-◌, ◌*◌, ◌/◌, ◌%◌, ◌∙◌, ℕ, zero, suc, List, [], ◌++◌, Option, length, take, drop, map, get_or, refl, sym, ap, subst, arith, append-nil, append_assoc, length-append, length-drop}
+use Rattle.std.proofs.Common.{◌≡◌, ◌<◌, ◌≤◌, ◌+◌, ◌-◌, ◌*◌, ◌∙◌, ℕ, zero, suc, List, [], ◌++◌, length, take, drop, get_or, refl, sym, ap, arith, append-nil, append_assoc, length-append, length-drop}
 use Rattle.std.proofs.lemmas.List.{length-take-le, take-append-le, take-append-drop}
 use Rattle.std.proofs.lemmas.List.FromFn.{length-map-range_with_len}
 use Rattle.std.proofs.lemmas.Slice.{take-put_mid}
-use Rattle.std.proofs.Math.Seq.{take-append-add, drop-append-add}
+use Rattle.std.proofs.Math.Seq.{take-append-add}
 use borrow.Rule.Slice.PartMut.{put_mid}
 use Rattle.frame_geometry.specs.Places.{place_of, payload_row_of}
 use Rattle.odtu_columns.specs.Columns.{slot_row_of}
@@ -11,8 +11,7 @@ use Rattle.odtu_columns.proofs.Rows.{slot_row_is, slot_row_of-cycles}
 use Rattle.otn_ports.proofs.FrontLaws.{front_length}
 use Rattle.otn_ports.specs.Fronts.{IsFront}
 use Rattle.line_side.specs.LineFile.{frame_at}
-use Rattle.command_base.specs.Gains.{GainsPart}
-use Rattle.line_commands.specs.SlotReport.{slot_bytes, slot_bytes_until, StoppedInFrame}
+use Rattle.line_commands.specs.SlotReport.{slot_bytes, slot_bytes_until}
 use Rattle.line_commands.proofs.LineFrames.{until-append, until-more, until-none, frame_at-append}
 
 -- ---- how many bytes
@@ -55,7 +54,7 @@ row_gathered slot r frame into low high size written =
     let start : r * 4080 + 16 ≡ place_of 4080 (r + 1) 17 = omega arith in
     let count : r * 4080 + 16 + 3808 - (r * 4080 + 16) ≡ 3808 = omega arith in
     let payload : take (r * 4080 + 16 + 3808 - (r * 4080 + 16)) (drop (r * 4080 + 16) frame) ≡ payload_row_of 4080 (r + 1) frame =
-        ap (λ n. take n (drop (r * 4080 + 16) frame)) count ∙ ap (λ n. take 3808 (drop n frame)) start in
+    ap (λ n. take n (drop (r * 4080 + 16) frame)) count ∙ ap (λ n. take 3808 (drop n frame)) start in
     slot_row_is 8 476 slot (r + 1) frame (take (r * 4080 + 16 + 3808 - (r * 4080 + 16)) (drop (r * 4080 + 16) frame)) into refl low high payload size written
 
 -- the bytes of a frame's slot among those of eight
@@ -73,7 +72,7 @@ frame_gathered slot bytes into new i so_far wide room is =
     let count : i * 16320 + 16320 - i * 16320 ≡ 16320 = omega arith in
     let start : i * 16320 ≡ 16320 * i = omega arith in
     let frame : take (i * 16320 + 16320 - i * 16320) (drop (i * 16320) bytes) ≡ frame_at bytes i =
-        ap (λ n. take n (drop (i * 16320) bytes)) count ∙ ap (λ n. take 16320 (drop n bytes)) start in
+    ap (λ n. take n (drop (i * 16320) bytes)) count ∙ ap (λ n. take 16320 (drop n bytes)) start in
     take-put_mid (i * 1904) (i * 1904 + 1904 - i * 1904) into new ((i + 1) * 1904) (omega arith) room
     ∙ ap (λ xs. xs ++ new) so_far ∙ ap (λ xs. slot_bytes_until slot bytes i ++ xs) (is ∙ ap (slot_bytes slot) frame) ∙ sym (until-more slot bytes i)
 
@@ -91,8 +90,7 @@ until-past slot bytes f (suc k) =
     let order : f + 1 + suc k ≡ f + 1 + k + 1 = omega arith in
     let front = slot_bytes_until slot bytes f in
     let here = slot_bytes slot (frame_at bytes f) in
-    let last = slot_bytes slot (frame_at bytes (f + 1 + k)) in
-    (
+    let last = slot_bytes slot (frame_at bytes (f + 1 + k)) in (
       so_far.0 ++ last,
       ap (slot_bytes_until slot bytes) order ∙ until-more slot bytes (f + 1 + k) ∙ ap (λ xs. xs ++ last) so_far.1
           ∙ append_assoc front (here ++ so_far.0) last ∙ ap (λ xs. front ++ xs) (append_assoc here so_far.0 last),

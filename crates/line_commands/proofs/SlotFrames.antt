@@ -1,24 +1,23 @@
 -- How the steps of `slot` over some frames add up.
-use Rattle.std.proofs.Common.{◌≡◌, ◌≢◌, ◌<◌, ◌≤◌, ◌+◌, ◌-◌, ◌*◌, ◌/◌, ◌%◌, ◌∙◌, ℕ, zero, suc, List, [], ◌++◌, Option, Some, None, length, take, drop, refl, sym, ap, subst, inl, arith, lit<, append-nil, append_assoc, length-append, length-drop}
+use Rattle.std.proofs.Common.{◌≡◌, ◌≢◌, ◌<◌, ◌≤◌, ◌+◌, ◌*◌, ◌/◌, ◌%◌, ◌∙◌, ℕ, zero, suc, List, [], ◌++◌, Option, Some, None, length, take, drop, refl, sym, ap, subst, inl, arith, lit<, append-nil, append_assoc, length-append}
 use Rattle.std.proofs.lemmas.List.{length-take-le}
-use Rattle.std.proofs.Math.Seq.{drop-append-add, take-length}
+use Rattle.std.proofs.Math.Seq.{drop-append-add}
 use Rattle.otn_ports.proofs.GivenLaws.{gave_twice}
 use Rattle.otn_ports.proofs.TakenTwice.{after-after}
 use Rattle.otn_ports.specs.Bytes.{after}
 use Rattle.otn_ports.specs.Given.{Gave}
 use Rattle.otn_ports.specs.Reads.{Takes}
-use Rattle.otn_ports.specs.Views.{State, Live, Dead, InView}
+use Rattle.otn_ports.specs.Views.{Live, Dead, InView}
 use Rattle.line_side.specs.LineFile.{frame_at}
 use Rattle.command_base.specs.Gains.{GainsPart}
 use Rattle.line_commands.specs.SlotReport.{slot_bytes, slot_bytes_until, StoppedInFrame}
 use Rattle.line_commands.specs.SlotRuns.{SlotEnded}
 use Rattle.line_commands.specs.Steps.SlotRuns.{SlotStep, FramesStep, progress_of}
-use Rattle.line_commands.specs.declared.slot.Progress.{Progress}
 use Rattle.line_commands.specs.declared.slot.Progress.TheVariants.{Frames, Stopped}
 use Rattle.otn_ports.specs.declared.ended.Ended.{Ended}
 use Rattle.otn_ports.specs.declared.ended.Ended.TheVariants.{Done, Unfinished, Cut, ReportFault, Memory}
-use Rattle.line_commands.proofs.LineFrames.{last_frame, until-append, until-further, until-more, until-none}
-use Rattle.line_commands.proofs.SlotBatches.{bytes-length, until-length, until-part, until-front, frame_at-front}
+use Rattle.line_commands.proofs.LineFrames.{until-append, until-further, until-more, until-none}
+use Rattle.line_commands.proofs.SlotBatches.{bytes-length, until-part, until-front, frame_at-front}
 use Rattle.line_commands.proofs.SlotLoop.{SoFar, ends_with, after-none, stopped_in}
 
 -- ---- frames behind whole frames
@@ -117,7 +116,7 @@ part_written slot most n count first now old new hand bytes low high few there g
     let before : slot_bytes_until slot read f ≡ slot_bytes_until slot hand f = until-front slot hand m f (omega arith) enough in
     let frame : frame_at read f ≡ frame_at hand f = frame_at-front hand m f (omega arith) enough in
     let wrote : take count bytes ≡ slot_bytes_until slot hand f ++ take r (slot_bytes slot (frame_at hand f)) =
-        ap (take count) gathered ∙ ap (λ k. take k (slot_bytes_until slot hand n)) parts ∙ until-part slot hand n f r low high inside (omega arith) in
+    ap (take count) gathered ∙ ap (λ k. take k (slot_bytes_until slot hand n)) parts ∙ until-part slot hand n f r low high inside (omega arith) in
     record {
       read = read;
       gave = gave;
@@ -161,7 +160,7 @@ stopped_behind slot i read more old gained new size report h =
     let there : h.f * 16320 ≤ length more = omega (arith, h.last) in
     let join : slot_bytes_until slot (read ++ more) (i + h.f) ≡ slot_bytes_until slot read i ++ slot_bytes_until slot more h.f = until-join slot read more i h.f size there in
     let before : after gained (slot_bytes_until slot more h.f) ≡ after old (slot_bytes_until slot (read ++ more) (i + h.f)) =
-        ap (λ r. after r (slot_bytes_until slot more h.f)) report ∙ after-after old (slot_bytes_until slot read i) (slot_bytes_until slot more h.f) ∙ ap (after old) (sym join) in
+    ap (λ r. after r (slot_bytes_until slot more h.f)) report ∙ after-after old (slot_bytes_until slot read i) (slot_bytes_until slot more h.f) ∙ ap (after old) (sym join) in
     record {
       f = i + h.f;
       last = omega (arith, length-append read more, size, h.last);

@@ -42,18 +42,6 @@ so_far_none slot first old = record {
   report = after-none old ∙ ap (after old) (sym (until-none slot []));
 }
 
-pub so_far_more : (slot i : ℕ) (first mid now : InView) (old gained new : Option (List ℕ)) → SoFar slot i first mid old gained
-    → SlotStep slot mid now gained new None → SoFar slot (i + 1) first now old new
-so_far_more slot i first mid now old gained new h step = record {
-  read = h.read ++ step.read;
-  gave = gave_twice first mid now h.read step.read h.gave step.gave;
-  size = omega (arith, length-append h.read step.read, h.size, step.ends.0);
-  state = step.ends.1 ∙ h.state;
-  unended = step.ends.3 ∙ h.unended;
-  report = step.ends.2 ∙ ap (λ r. after r (slot_bytes slot step.read)) h.report ∙ after-after old (slot_bytes_until slot h.read i) (slot_bytes slot step.read)
-      ∙ ap (after old) (sym (until-further slot h.read step.read i h.size step.ends.0));
-}
-
 -- what a part of the last frame's bytes is of the whole report
 pub part_after : (old gained new : Option (List ℕ)) (before bytes : List ℕ) → gained ≡ after old before → GainsPart gained new bytes → GainsPart old new (before ++ bytes)
 part_after old gained new before bytes e h = record {

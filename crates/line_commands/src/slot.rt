@@ -19,7 +19,7 @@ use otn_base::limits::{LINE_COLUMNS, LINE_FRAME_BYTES, MOST_FRAMES};
 use otn_ports::{Ended, InPlaceOf, Reading, Sink, Source, Written, write_counted, write_whole};
 use std::alloc::Global;
 
-// How far a step came: so many frames are written, or the command ends.
+// What a step came to: so many frames are written, or the command ends.
 enum Progress {
     Frames(usize),
     Stopped(Ended),
@@ -27,7 +27,7 @@ enum Progress {
 
 /// Writes the 1,904 payload bytes of the slot, 1 to 8, row by row, of each whole frame that the
 /// line gives, of 131,072 frames at most, and then asks the line for one byte more. A write that fails
-/// ends it at once.
+/// ends it at once. Frames that the line has at hand go eight at a time at most, by one write.
 pub fn write_slot<I: Source, K: Sink>(
     alloc: Global,
     slot: u8,
@@ -76,7 +76,7 @@ fn write_frames<I: Source, K: Sink>(
     ask_for_more(line)
 }
 
-// Some frames, so many at most: those at hand, 8 at a time at most, by one write; where not one is at hand whole, one
+// Some frames, so many at most: of the whole frames at hand 8 at most, by one write. Where there are none, one frame
 // that is read.
 fn write_some<I: Source, K: Sink>(
     alloc: Global,
@@ -104,8 +104,8 @@ fn write_some<I: Source, K: Sink>(
     write_gathered(&bytes[..frames * SLOT_BYTES], frames, line, report)
 }
 
-// Writes the slot's bytes of so many frames at hand, and then goes past the frames; where the write fails, up to the
-// end of the frame in which it did.
+// Writes the slot's bytes of so many frames at hand, and goes past these frames. Where the write fails, it goes past
+// those up to the one in which it failed.
 fn write_gathered<I: Source, K: Sink>(
     bytes: &[u8],
     frames: usize,

@@ -1,4 +1,4 @@
-use Rattle.std.proofs.Common.{◌≡◌, length, arith, ◌∙◌, inl, refl}
+use Rattle.std.proofs.Common.{◌≡◌, length, arith, ◌∙◌}
 use Rattle.odtu_columns.specs.Columns.{slot_row_of}
 use Rattle.line_commands.specs.SlotReport.{slot_bytes}
 use Rattle.command_base.proofs.Rows.{rows_filled, rows_whole, part_length}

@@ -1,9 +1,6 @@
-use Rattle.std.proofs.Common.{◌≡◌, ◌<◌, ◌≤◌, ◌*◌, ◌∙◌, length, take, ap, sym, subst, arith}
+use Rattle.std.proofs.Common.{◌∙◌, sym, subst}
 use Rattle.otn_ports.specs.InPlace.{in_view}
-use Rattle.otn_ports.specs.PortViews.{sink_view}
-use Rattle.command_base.specs.Ends.{ReportAfter}
 use Rattle.otn_ports.specs.AtHand.{place_at_hand}
-use Rattle.line_commands.specs.SlotReport.{slot_bytes_until}
 use Rattle.line_commands.specs.Steps.SlotRuns.{FramesStep, SlotStep}
 use Rattle.line_commands.proofs.SlotBatches.{until-of_front}
 use Rattle.line_commands.proofs.SlotFrames.{step_of_one}
@@ -16,7 +13,7 @@ returns-then-frames-eq0-clause-step g c =
     let got = g.K.Sink.got c.args.report.now in
     let gets = g.K.Sink.got c.write_frame.new.report in
     let step : SlotStep c.args.slot old new got gets c.write_frame.result =
-        subst (λ view. SlotStep c.args.slot view new got gets c.write_frame.result) c.look_ahead.ensures.view c.write_frame.ensures.step in
+    subst (λ view. SlotStep c.args.slot view new got gets c.write_frame.result) c.look_ahead.ensures.view c.write_frame.ensures.step in
     subst (λ answer. FramesStep c.args.slot c.args.most old new got gets answer) (sym c.after_frame.ensures)
     (step_of_one c.write_frame.result c.args.slot c.args.most old new got gets c.requires.most step)
 
