@@ -2,20 +2,21 @@
 use crate::line_runs::{FailsAt, ran};
 use line_tool::Status;
 use otn_base::Memory;
-use otn_ports::MemSource;
+use otn_ports::{MemSource, ReaderSource};
 use std::alloc::Global;
+use std::io::Cursor;
 use std::test::Fail;
 
-// Frames in each of which the payload byte in column c is (c - 17) mod 256, and all others are 255;
+// Frames in each of which the payload byte in column c is (c - 17 + f) mod 256, f from 0, and all others are 255;
 // then some more bytes.
-fn numbered(alloc: Global, frames: usize, more: usize) -> Result<Vec<u8>, Memory> {
+fn numbered(alloc: Global, frames: u32, more: usize) -> Result<Vec<u8>, Memory> {
     let mut bytes = Vec::new(alloc);
-    for _ in 0..frames {
+    for f in 0..frames {
         for _ in 0..4_u32 {
             for column in 1..4081_u32 {
                 let own = 17 <= column && column <= 3824;
                 bytes.push(if own {
-                    ((column - 17) % 256) as u8
+                    ((column - 17 + f % 256) % 256) as u8
                 } else {
                     255
                 })?;
@@ -28,17 +29,22 @@ fn numbered(alloc: Global, frames: usize, more: usize) -> Result<Vec<u8>, Memory
     Ok(bytes)
 }
 
-// Slot 3 of such frames: in each row the 476 bytes 02, 0A, 12 and so on by 8.
-fn slot_three(alloc: Global, frames: usize) -> Result<Vec<u8>, Memory> {
+// Slot 3 of such frames: in each row of the first the 476 bytes 02, 0A, 12 and so on by 8, of the second 03, 0B, 13.
+fn slot_three(alloc: Global, frames: u32) -> Result<Vec<u8>, Memory> {
     let mut bytes = Vec::new(alloc);
-    for _ in 0..frames {
+    for f in 0..frames {
         for _ in 0..4_u32 {
             for cycle in 0..476_u32 {
-                bytes.push(((2 + 8 * cycle) % 256) as u8)?;
+                bytes.push(((2 + 8 * cycle + f % 256) % 256) as u8)?;
             }
         }
     }
     Ok(bytes)
+}
+
+// A file of such frames, which looks ahead.
+fn file(alloc: Global, frames: u32, more: usize) -> Result<ReaderSource<Cursor<Vec<u8>>>, Memory> {
+    Ok(ReaderSource::over(Cursor::new(numbered(alloc, frames, more)?)))
 }
 
 #[test]
@@ -106,6 +112,57 @@ fn a_line_that_fails_is_cut(rt: HostRuntime) -> Result<(), Fail> {
             "at call {call}"
         );
         assert!(rt; outcome.dead, "at call {call}");
+    }
+    Ok(())
+}
+
+#[test]
+fn frames_at_hand_are_written_as_one_by_one(rt: HostRuntime) -> Result<(), Fail> {
+    let alloc = rt.alloc();
+    for (frames, more, status, taken) in [
+        (0, 0, Status::Done, 0),
+        (1, 0, Status::Done, 16_320),
+        (7, 0, Status::Done, 114_240),
+        (8, 0, Status::Done, 130_560),
+        (9, 0, Status::Done, 146_880),
+        (17, 0, Status::Done, 277_440),
+        (17, 16_319, Status::Unfinished, 293_759),
+    ] {
+        let line = file(alloc, frames, more)?;
+        let outcome = ran(alloc, &["slot", "3"], line, 40_000)?;
+        let wanted = slot_three(alloc, frames)?;
+        assert_eq!(rt; outcome.status, status, "{frames} and {more}");
+        assert_eq!(rt; outcome.taken, taken, "{frames} and {more}");
+        assert!(rt;
+            outcome.written.as_slice() == wanted.as_slice(),
+            "{frames} and {more}"
+        );
+    }
+    Ok(())
+}
+
+#[test]
+fn a_failed_write_takes_the_frames_up_to_its_own(rt: HostRuntime) -> Result<(), Fail> {
+    let alloc = rt.alloc();
+    let wanted = slot_three(alloc, 17)?;
+    for (room, taken) in [
+        (0, 16_320),
+        (1_903, 16_320),
+        (1_904, 32_640),
+        (9_527, 97_920),
+        (15_231, 130_560),
+        (15_232, 146_880),
+        (32_367, 277_440),
+    ] {
+        let outcome = ran(alloc, &["slot", "3"], file(alloc, 17, 0)?, room)?;
+        assert_eq!(rt; outcome.status, Status::ReportFault, "into {room}");
+        assert_eq!(rt; outcome.taken, taken, "into {room}");
+        assert_eq!(rt; outcome.written.len(), room, "into {room}");
+        assert!(rt;
+            wanted.starts_with(outcome.written.as_slice()),
+            "into {room}"
+        );
+        assert!(rt; !outcome.dead, "into {room}");
     }
     Ok(())
 }
