@@ -1,6 +1,7 @@
 //! The commands over one line: what they write of it, and how they end.
 //!
 //! - `slot`: the payload bytes of one tributary slot of a line.
+//! - `frames_at_hand`: these bytes, gathered out of the bytes of frames.
 //! - `pull`: what the sink of a tributary on a line emits, turn by turn.
 //! - `laws`: that nothing else on a line changes what they write, and that a client's bytes come out as they went in.
 #![tactic(auto)]

@@ -1,4 +1,4 @@
--- Steps of `write_some`, `write_frame` and `write_slot_of`: what private contracts alone cite, beside the definitions of `SlotRuns`.
+-- Steps of `write_some`, `write_frame` and `write_slot_of`: what private contracts alone cite, beside `SlotRuns`.
 use Rattle.std.specs.Prelude.{◌≡◌, ◌<◌, ◌≤◌, ◌*◌, ℕ, List, [], Option, Some, None, length}
 use Rattle.otn_base.specs.declared.limits.TheConstants.{LINE_FRAME_BYTES}
 use Rattle.otn_ports.specs.Bytes.{after}
@@ -51,7 +51,8 @@ FramesEnd (Stopped ReportFault) slot most read first now old new = StoppedInFram
 FramesEnd (Stopped ended) slot most read first now old new = StepEnds (Some ended) slot read first now old new
 
 -- a step of some frames, so many at most: the line gave these, and their slot's bytes were written
-pub record FramesStep (slot most : ℕ) (first now : InView) (old new : Option (List ℕ)) (answer : Progress) : Type 0 where
+pub record FramesStep (slot most : ℕ) (first now : InView) (old new : Option (List ℕ)) (answer : Progress)
+    : Type 0 where
   pub read : List ℕ
   pub gave : Gave first read now
   pub ends : FramesEnd answer slot most read first now old new
