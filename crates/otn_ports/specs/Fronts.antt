@@ -1,4 +1,4 @@
--- API: the front of a list of bytes.
+-- Believed: the front of a list of bytes.
 use Rattle.std.specs.Prelude.{◌≡◌, ℕ, List, length, take}
 
 -- bytes that are the front of a whole, or all of it, or none

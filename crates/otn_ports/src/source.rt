@@ -41,8 +41,8 @@ pub trait Source: Drop {
         ensures well { OnOk result (faults self.new ≡ faults self.old) }
         ensures same { boxed self.new ≡ boxed self.old };
 
-    /// Looks ahead: where it has no bytes at hand, it may get some by one call of what it reads, into room that it asks
-    /// for once. Nothing is given by this call, and none of its failures is an answer: a read meets it.
+    /// Looks ahead: where it has no bytes at hand, it may get some by one call of what it reads, into room that it then
+    /// keeps. Nothing is given by this call, and none of its failures is an answer: a read meets it.
     fn look_ahead(&mut self, alloc: Global)
         ensures left { left self.new ≡ left self.old }
         ensures faults { faults self.new ≡ faults self.old }
