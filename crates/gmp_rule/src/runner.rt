@@ -1,10 +1,13 @@
 // The data rule over the groups of a multiframe in order.
-ghost use Rattle.std.specs.Prelude.{◌≡◌, ◌+◌, ◌*◌, ◌%◌, ◌<◌, ◌≤◌, ◌↔◌, ℕ, IsTrue};
+ghost use Rattle.std.specs.Prelude.{◌≡◌, ◌+◌, ◌*◌, ◌/◌, ◌%◌, ◌<◌, ◌≤◌, ◌↔◌, ℕ, IsTrue};
 ghost use Rattle.gmp_rule.specs.DataRule.{IsData};
 ghost use Rattle.otn_base.specs.declared.limits.TheConstants.{GROUPS};
 
 use crate::ALL;
 use std::marker::Model;
+
+// The runs of an ODU0 at its nominal rate are 237 data groups long: its 64 stuff groups stand evenly among 15,232.
+const FIRST_GUESS: u32 = 236;
 
 /// The data rule over the groups in order, by a running remainder. It is seen as the number of data
 /// groups of the multiframe and the number of groups asked so far.
@@ -13,6 +16,8 @@ pub struct Runner {
     cm: u32,
     remainder: u32,
     asked: u32,
+    // How long a run of data groups is, or one group less: a guess, with which the length is found without a division.
+    near: u32,
 }
 
 impl Model for Runner {
@@ -24,7 +29,7 @@ impl Model for Runner {
 
     ghost view = { λ r. record { cm = r.cm; asked = r.asked } };
 
-    ghost invariant = { λ r. (r.cm ≤ GROUPS) × (r.asked ≤ GROUPS) × (r.remainder ≡ (r.asked * r.cm) % GROUPS) };
+    ghost invariant = { λ r. (r.cm ≤ GROUPS) × (r.asked ≤ GROUPS) × (r.remainder ≡ (r.asked * r.cm) % GROUPS) × (r.near ≤ GROUPS) };
 }
 
 impl Runner {
@@ -38,6 +43,7 @@ impl Runner {
             cm: c,
             remainder: 0,
             asked: 0,
+            near: FIRST_GUESS,
         }
     }
 
@@ -52,6 +58,7 @@ impl Runner {
             cm: c,
             remainder: asked * c % ALL,
             asked,
+            near: FIRST_GUESS,
         }
     }
 
@@ -82,7 +89,7 @@ impl Runner {
         ensures step { self.new ≡ record self.old { asked = self.old.asked + result } }
     {
         let stuff = ALL - self.cm;
-        let run = run_within(self.remainder, stuff, most);
+        let run = run_within(self.remainder, stuff, most, &mut self.near);
         self.asked += run;
         self.remainder -= run * stuff;
         run
@@ -90,12 +97,17 @@ impl Runner {
 }
 
 // How many groups, of `most` at most, carry data one after the other where the remainder stands so
-// high and each of them lowers it by `stuff`.
-fn run_within(remainder: u32, stuff: u32, most: u32) -> u32
-    requires { most ≤ GROUPS }
+// high and each of them lowers it by `stuff`. But for one that begins in the middle, the runs of a multiframe are of two
+// lengths, of which one is one more than the other: the guess keeps to the longest that came.
+fn run_within(remainder: u32, stuff: u32, most: u32, near: &mut u32) -> u32
+    requires most { most ≤ GROUPS }
+    requires remainder { remainder ≤ GROUPS }
+    requires stuff { stuff ≤ GROUPS }
+    requires near { near.old ≤ GROUPS }
     ensures most { result ≤ most }
     ensures inside { result * stuff ≤ remainder }
     ensures longest { result < most → remainder < result * stuff + stuff }
+    ensures near { near.new ≤ GROUPS }
 {
     if remainder < stuff {
         return 0;
@@ -103,5 +115,25 @@ fn run_within(remainder: u32, stuff: u32, most: u32) -> u32
     if stuff == 0 {
         return most;
     }
-    most.min(remainder / stuff)
+    let whole = quotient(remainder, stuff, *near);
+    *near = (*near).max(whole.saturating_sub(1));
+    most.min(whole)
+}
+
+// The quotient of the two, without a division where it is `near` or one more.
+fn quotient(dividend: u32, divisor: u32, near: u32) -> u32
+    requires dividend { dividend ≤ GROUPS }
+    requires some { 0 < divisor }
+    requires few { divisor ≤ GROUPS }
+    requires near { near ≤ GROUPS }
+    ensures { result ≡ dividend / divisor }
+{
+    let product = near * divisor;
+    if product <= dividend && dividend - product < divisor {
+        return near;
+    }
+    if product + divisor <= dividend && dividend - product - divisor < divisor {
+        return near + 1;
+    }
+    dividend / divisor
 }
