@@ -97,8 +97,8 @@ impl Runner {
 }
 
 // How many groups, of `most` at most, carry data one after the other where the remainder stands so
-// high and each of them lowers it by `stuff`. But for one that begins in the middle, the runs of a multiframe are of two
-// lengths, of which one is one more than the other: the guess keeps to the longest that came.
+// high and each of them lowers it by `stuff`. But for one that begins in the middle, the runs of a
+// multiframe are of two lengths, one group apart: the guess keeps to the longest that came.
 fn run_within(remainder: u32, stuff: u32, most: u32, near: &mut u32) -> u32
     requires most { most ≤ GROUPS }
     requires remainder { remainder ≤ GROUPS }
