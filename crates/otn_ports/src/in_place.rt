@@ -96,7 +96,6 @@ impl<P: Source> InPlaceOf<P> {
 
     /// Goes past so many of the bytes at hand, and counts them as a read that gives them does.
     pub fn pass(&mut self, n: usize)
-        requires some { 0 < n }
         requires hand { n ≤ length (place_at_hand P.Source self.old) }
         ensures passed { Takes (in_view P.Source self.old) (take n (place_at_hand P.Source self.old))
             (in_view P.Source self.new) }

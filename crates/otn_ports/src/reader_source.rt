@@ -132,7 +132,6 @@ impl<R: Read + Drop> Source for ReaderSource<R> {
 
     #[tactic(auto, using(crate::proofs::AheadLaws::consumes_front))]
     fn pass(&mut self, n: usize)
-        requires some { 0 < n }
         requires hand { n ≤ length (reader_at_hand self.old) }
         ensures system { Consumes (reader_bytes R.remaining self.old) (reader_bytes R.remaining self.new)
             (take n (reader_at_hand self.old)) }

@@ -59,7 +59,6 @@ pub trait Source: Drop {
 
     /// Goes past so many of the bytes at hand, as a read does that gives them.
     fn pass(&mut self, n: usize)
-        requires some { 0 < n }
         requires hand { n ≤ length (at_hand self.old) }
         ensures bytes { left self.old ≡ before (take n (at_hand self.old)) (left self.new) }
         ensures faults { faults self.new ≡ faults self.old }
