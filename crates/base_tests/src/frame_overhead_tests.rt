@@ -1,6 +1,6 @@
 // Worked parities.
 use frame_geometry::Frame;
-use frame_overhead::{ParityCheck, ParityDelay, parity};
+use frame_overhead::{ParityCheck, ParityDelay, parity, parity_with, payload_parity};
 use std::test::Fail;
 
 #[test]
@@ -17,6 +17,8 @@ fn the_opu_area_counts(rt: HostRuntime) -> Result<(), Fail> {
         frame.set(row, col, byte);
     }
     assert_eq!(rt; parity(&frame), 0x22);
+    assert_eq!(rt; payload_parity(&frame), 0x02);
+    assert_eq!(rt; parity_with(&frame, 0x02), 0x22);
     Ok(())
 }
 

@@ -2,6 +2,7 @@
 ghost use Rattle.std.specs.Prelude.{◌≡◌, ◌≤◌, IfOk, vec_len};
 
 use frame_geometry::Frame;
+use frame_overhead::payload_parity;
 use odtu_columns::{FillFrame, SlotFrame, group, message, put_row_groups, row_groups, slot_row};
 use otn_base::{LineKind, Memory, Slots};
 use std::alloc::Global;
@@ -225,11 +226,13 @@ fn slots_one_after_another(rt: HostRuntime) -> Result<(), Fail> {
     let frame = filled_frame(rt.alloc())?;
     let mut by_slots = filled_slots(rt.alloc())?;
     let mut joined = Frame::<4080>::new(rt.alloc())?;
-    by_slots.join_into(&mut joined);
+    let payload = by_slots.join_into(&mut joined);
     assert_eq!(rt; is_same(&joined, &frame), true);
     assert_eq!(rt; first_unlike_in(&joined, &JOINED), 0);
+    assert_eq!(rt; payload, payload_parity(&frame));
     by_slots.clear();
-    by_slots.join_into(&mut joined);
+    let payload = by_slots.join_into(&mut joined);
     assert_eq!(rt; is_clear(&joined), true);
+    assert_eq!(rt; payload, 0);
     Ok(())
 }

@@ -1,9 +1,10 @@
 -- The parity of a frame out of its rows.
-use Rattle.std.proofs.Common.{◌≡◌, ℕ, ◌+◌, ◌-◌, ◌*◌, ◌<◌, ◌≤◌, List, [], ◌∷◌, ◌++◌, length, get_or, take, drop, ap, sym, ◌∙◌, arith, length-drop}
-use Rattle.std.proofs.lemmas.List.{length-take-le, get_or-take, get_or-drop, ext_get_or}
-use Rattle.frame_geometry.specs.Places.{place_of}
+use Rattle.std.proofs.Common.{◌≡◌, inl, inr, ℕ, ◌+◌, ◌-◌, ◌*◌, ◌<◌, ◌≤◌, List, [], ◌∷◌, ◌++◌, length, get_or, take, drop, ap, sym, ◌∙◌, refl, arith, length-drop}
+use Rattle.std.proofs.lemmas.List.{length-take-le, get_or-take, get_or-drop, drop_more, ext_get_or}
+use Rattle.frame_geometry.specs.Places.{IsWidth, place_of, payload_row_of}
+use Rattle.frame_geometry.specs.PayloadParity.{row_parity_of, payload_parity_of}
 use Rattle.std.specs.Prelude.{fold, bit_xor}
-use Rattle.std.specs.Int.Bits.{xor_zero_l, xor_zero_r, xor_assoc}
+use Rattle.std.specs.Int.Bits.{xor_zero_l, xor_zero_r, xor_assoc, xor_comm}
 use Rattle.std.proofs.lemmas.List.Sums.{fold-append}
 use Rattle.frame_overhead.specs.Parity.{opu_row_of, parity_of}
 
@@ -72,3 +73,68 @@ same_parity cols old new wide sized size same =
     ∙ ap (λ xs. opu_row_of cols 1 old ++ (xs ++ (opu_row_of cols 3 new ++ opu_row_of cols 4 new))) (row 2 (omega arith) (omega arith))
     ∙ ap (λ xs. opu_row_of cols 1 old ++ (opu_row_of cols 2 old ++ (xs ++ opu_row_of cols 4 new))) (row 3 (omega arith) (omega arith))
     ∙ ap (λ xs. opu_row_of cols 1 old ++ (opu_row_of cols 2 old ++ (opu_row_of cols 3 old ++ xs))) (row 4 (omega arith) (omega arith)))
+
+-- ---- the parity out of what the payload gives
+
+-- the OPU area of a row is two bytes of overhead and the payload
+opu_row_begins : (cols row : ℕ) (frame : List ℕ) → 3824 ≤ cols → length frame ≡ 4 * cols → 1 ≤ row → row ≤ 4
+    → opu_row_of cols row frame ≡ get_or frame (place_of cols row 15) 0 ∷ get_or frame (place_of cols row 16) 0 ∷ payload_row_of cols row frame
+opu_row_begins cols row frame wide size low high =
+    let start = place_of cols row 15 in
+    let room : start + 3810 ≤ 4 * cols = grind arith in
+    let second : start + 1 ≡ place_of cols row 16 = omega arith in
+    let third : start + 1 + 1 ≡ place_of cols row 17 = omega arith in
+    ap (take 3810) (drop_more frame start 0 (omega (arith, size, room)))
+    ∙ ap (λ xs. get_or frame start 0 ∷ take 3809 xs) (drop_more frame (start + 1) 0 (omega (arith, size, room)))
+    ∙ ap (λ n. get_or frame start 0 ∷ get_or frame n 0 ∷ take 3808 (drop (start + 1 + 1) frame)) second
+    ∙ ap (λ n. get_or frame start 0 ∷ get_or frame (place_of cols row 16) 0 ∷ take 3808 (drop n frame)) third
+
+row_begins : (cols row : ℕ) (frame : List ℕ) → 3824 ≤ cols → length frame ≡ 4 * cols → 1 ≤ row → row ≤ 4
+    → fold bit_xor 0 (opu_row_of cols row frame) ≡ bit_xor (bit_xor (get_or frame (place_of cols row 15) 0) (get_or frame (place_of cols row 16) 0)) (row_parity_of cols row frame)
+row_begins cols row frame wide size low high =
+    let a = get_or frame (place_of cols row 15) 0 in
+    let b = get_or frame (place_of cols row 16) 0 in
+    ap (fold bit_xor 0) (opu_row_begins cols row frame wide size low high)
+    ∙ ap (λ n. fold bit_xor (bit_xor n b) (payload_row_of cols row frame)) (xor_zero_l a)
+    ∙ fold_from (bit_xor a b) (payload_row_of cols row frame)
+
+-- two pairs, turned round
+pairs_turned : (a b c d : ℕ) → bit_xor (bit_xor a b) (bit_xor c d) ≡ bit_xor (bit_xor a c) (bit_xor b d)
+pairs_turned a b c d =
+    xor_assoc a b (bit_xor c d)
+    ∙ ap (bit_xor a) (sym (xor_assoc b c d) ∙ ap (λ n. bit_xor n d) (xor_comm b c) ∙ xor_assoc c b d)
+    ∙ sym (xor_assoc a c (bit_xor b d))
+
+-- the overhead of all rows, and then the payload
+pub with_payload : (cols a b c d payload : ℕ) (frame : List ℕ) → 3824 ≤ cols → length frame ≡ 4 * cols
+    → a ≡ bit_xor (get_or frame (place_of cols 1 15) 0) (get_or frame (place_of cols 1 16) 0)
+    → b ≡ bit_xor (get_or frame (place_of cols 2 15) 0) (get_or frame (place_of cols 2 16) 0)
+    → c ≡ bit_xor (get_or frame (place_of cols 3 15) 0) (get_or frame (place_of cols 3 16) 0)
+    → d ≡ bit_xor (get_or frame (place_of cols 4 15) 0) (get_or frame (place_of cols 4 16) 0)
+    → payload ≡ payload_parity_of cols frame
+    → bit_xor (bit_xor (bit_xor (bit_xor a b) c) d) payload ≡ parity_of cols frame
+with_payload cols a b c d payload frame wide size ea eb ec ed same =
+    let p = λ (row : ℕ). row_parity_of cols row frame in
+    let begins : (row of : ℕ) → 1 ≤ row → row ≤ 4 → of ≡ bit_xor (get_or frame (place_of cols row 15) 0) (get_or frame (place_of cols row 16) 0)
+    → bit_xor of (p row) ≡ fold bit_xor 0 (opu_row_of cols row frame) =
+    λ row of low high e. ap (λ n. bit_xor n (p row)) e ∙ sym (row_begins cols row frame wide size low high) in
+    ap (bit_xor (bit_xor (bit_xor (bit_xor a b) c) d)) same
+    ∙ pairs_turned (bit_xor (bit_xor a b) c) d (bit_xor (bit_xor (p 1) (p 2)) (p 3)) (p 4)
+    ∙ ap (λ n. bit_xor n (bit_xor d (p 4))) (pairs_turned (bit_xor a b) c (bit_xor (p 1) (p 2)) (p 3))
+    ∙ ap (λ n. bit_xor (bit_xor n (bit_xor c (p 3))) (bit_xor d (p 4))) (pairs_turned a b (p 1) (p 2))
+    ∙ by_rows cols (bit_xor a (p 1)) (bit_xor b (p 2)) (bit_xor c (p 3)) (bit_xor d (p 4)) _ _ _ _ frame refl refl refl refl
+    (begins 1 a (omega arith) (omega arith) ea) (begins 2 b (omega arith) (omega arith) eb)
+    (begins 3 c (omega arith) (omega arith) ec) (begins 4 d (omega arith) (omega arith) ed)
+
+-- the overhead of a row as it is lent
+pub pair_is : (cols row at : ℕ) (bytes frame : List ℕ) → bytes ≡ frame → at ≡ place_of cols row 15
+    → bit_xor (get_or bytes at 0) (get_or bytes (at + 1) 0) ≡ bit_xor (get_or frame (place_of cols row 15) 0) (get_or frame (place_of cols row 16) 0)
+pair_is cols row at bytes frame same here =
+    let next : at + 1 ≡ place_of cols row 16 = omega (arith, here) in
+    ap (λ xs. bit_xor (get_or xs at 0) (get_or xs (at + 1) 0)) same
+    ∙ ap (λ n. bit_xor (get_or frame n 0) (get_or frame (at + 1) 0)) here
+    ∙ ap (λ n. bit_xor (get_or frame (place_of cols row 15) 0) (get_or frame n 0)) next
+
+pub wide_enough : (cols : ℕ) → IsWidth cols → 3824 ≤ cols
+wide_enough cols (inl line) = omega (arith, line)
+wide_enough cols (inr client) = omega (arith, client)

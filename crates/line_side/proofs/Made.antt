@@ -14,6 +14,7 @@ use Rattle.line_side.proofs.Giving.{dead_not_live, empty_not_live}
 use Rattle.otn_base.specs.Counts.{saturated}
 use Rattle.std.specs.Prelude.{slice_set, ◌&&◌}
 use Rattle.std.proofs.Common.{get_or, cond}
+use Rattle.frame_geometry.specs.PayloadParity.{payload_parity_of, same_payload_parity}
 use Rattle.frame_geometry.specs.Places.{place_of, same_place}
 use Rattle.frame_overhead.specs.Parity.{parity_of}
 use Rattle.frame_overhead.specs.Runs.{IsPlace}
@@ -297,3 +298,11 @@ new_made n kind scrambled mask first line form same sapi section path frames = r
   section = section;
   path = path;
 }
+
+-- the PSI byte is no byte of the payload
+pub psi_beside_payload : (frame set : List ℕ) (byte : ℕ) → set ≡ slice_set frame (place_of 4080 4 15) byte → length set ≡ 16320 → payload_parity_of 4080 set ≡ payload_parity_of 4080 frame
+psi_beside_payload frame set byte is size =
+    same_payload_parity 4080 frame set (omega arith) (sym (length-set frame (place_of 4080 4 15) byte) ∙ sym (ap length is) ∙ size) size (λ row x low high below.
+    ap (λ bytes. get_or bytes (place_of 4080 row (17 + x)) 0) is
+    ∙ get_or-set_other frame (place_of 4080 4 15) (place_of 4080 row (17 + x)) byte 0 (λ here.
+    let (r, c) = same_place 4080 row (17 + x) 4 15 low (omega arith) (omega arith) (omega arith) (omega arith) (omega arith) here in omega (arith, c)))

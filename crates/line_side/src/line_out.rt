@@ -1,6 +1,7 @@
 // An output line: it gives a frame to be filled, adds the overhead and writes it.
 ghost use Rattle.std.specs.Prelude.{◌≡◌, ◌≢◌, ◌<◌, ◌+◌, ◌++◌, ◌∷◌, ℕ, List, [], IfOk, length, slice_index};
-ghost use Rattle.otn_base.specs.declared.limits.TheConstants.{LINE_FRAME_BYTES as FRAME_BYTES};
+ghost use Rattle.otn_base.specs.declared.limits.TheConstants.{LINE_COLUMNS, LINE_FRAME_BYTES as FRAME_BYTES};
+ghost use Rattle.frame_geometry.specs.PayloadParity.{payload_parity_of};
 ghost use Rattle.otn_ports.specs.OutPlace.{out_view};
 ghost use Rattle.otn_ports.specs.Views.{OutView, Live};
 ghost use Rattle.multiframe.specs.LineTurns.{one_if as one_of};
@@ -9,7 +10,7 @@ ghost use Rattle.line_side.specs.LineOutput.{frame_counts};
 use crate::mask::LineMask;
 use frame_geometry::Frame;
 use frame_geometry::overhead::{PSI_COLUMN, PSI_ROW};
-use frame_overhead::parity;
+use frame_overhead::{parity_with, payload_parity};
 use msi_table::{SlotMap, psi_byte};
 use odu_path::PathWriter;
 use otn_base::limits::{LINE_COLUMNS, LINE_FRAME_BYTES};
@@ -93,6 +94,13 @@ impl LineOut {
         &mut self.frame
     }
 
+    /// What the payload of the frame gives to its BIP-8.
+    pub fn payload_parity(&self) -> u8
+        ensures { result ≡ payload_parity_of LINE_COLUMNS self.now.frame }
+    {
+        payload_parity(&self.frame)
+    }
+
     /// Adds the overhead to the frame, which has this MFAS on a line whose slots are used so, and writes it through the
     /// line's mask. The MSI bytes are those of the map's slots; no clause asks that the map be of the line's `kind`:
     /// the caller sees to it.
@@ -108,8 +116,32 @@ impl LineOut {
             (self.old.frames + one_of (frame_counts (out_view K.Sink place.old).state
             (out_view K.Sink place.new).state)) }
     {
+        let payload = self.payload_parity();
+        self.finish_with(mfas, map, payload, place);
+    }
+
+    /// As `finish`, for a frame of which it is known what its payload gives to the BIP-8.
+    pub fn finish_with<K: Sink>(
+        &mut self,
+        mfas: u8,
+        map: &SlotMap,
+        payload: u8,
+        place: &mut OutPlaceOf<K>,
+    )
+        requires payload { payload ≡ payload_parity_of LINE_COLUMNS self.old.frame }
+        ensures made { (n : ℕ) → AsMade n (out_view K.Sink place.old) self.old
+            (λ form first puts. LineMade n form first (out_view K.Sink place.new) (puts ++ record { mfas = mfas; ports = map.now; bytes = self.old.frame } ∷ []) self.new) }
+        ensures form { self.new.form ≡ self.old.form }
+
+        // bytes go to a live place, which may die of its own port's fault, and any other place is asked nothing
+        ensures gained { (written : List ℕ) × Gained (out_view K.Sink place.old) written (out_view K.Sink place.new) }
+        ensures quiet { (out_view K.Sink place.old).state ≢ Live → place.new ≡ place.old }
+        ensures frames { self.new.frames ≡ saturated
+            (self.old.frames + one_of (frame_counts (out_view K.Sink place.old).state
+            (out_view K.Sink place.new).state)) }
+    {
         self.frame.set(PSI_ROW, PSI_COLUMN, psi_byte(mfas, map));
-        let parity = parity(&self.frame);
+        let parity = parity_with(&self.frame, payload);
         self.path
             .write_with(&mut self.frame, mfas, &self.trace, parity);
         self.section

@@ -2,7 +2,8 @@
 ghost use Rattle.std.specs.Prelude.{◌≡◌, ◌<◌, ◌≤◌, ◌+◌, ◌*◌, ◌%◌, ℕ, true, false, length, slice_index};
 ghost use Rattle.otn_base.specs.LineSlots.{LineSlots, slots_of};
 ghost use Rattle.otn_base.specs.declared.kind.PortName.TheVariants.{LineOut as line-out};
-ghost use Rattle.otn_base.specs.declared.limits.TheConstants.{LINE_FRAME_BYTES as FRAME_BYTES};
+ghost use Rattle.otn_base.specs.declared.limits.TheConstants.{LINE_COLUMNS, LINE_FRAME_BYTES as FRAME_BYTES};
+ghost use Rattle.frame_geometry.specs.PayloadParity.{payload_parity_of};
 ghost use Rattle.otn_ports.specs.OutPlace.{out_view};
 ghost use Rattle.node_links.specs.Links.{takes_part};
 ghost use Rattle.node_links.specs.LineFrames.{FrameWritten};
@@ -37,8 +38,8 @@ pub fn write_line<K: Sink>(
     let kind = line.kind();
     let map = slot_map(kind, b, past, links);
     let by_slots = is_by_slots(kind, b, past, links);
-    fill_line(by_slots, b, past, links, slots, line);
-    line.finish(mfas_of(kind, past, n), &map, place);
+    let payload = fill_line(by_slots, b, past, links, slots, line);
+    line.finish_with(mfas_of(kind, past, n), &map, payload, place);
 }
 
 // Whether a frame of line output `b` is best kept by slots while it is filled in turn past + 1: on an OTU2, to which
@@ -63,7 +64,8 @@ fn has_one_slot(to: &ToEnd) -> bool {
     }
 }
 
-// Each active connection to line output `b` puts its own into the next frame, where all else is 0.
+// Each active connection to line output `b` puts its own into the next frame, where all else is 0. Answers what the
+// payload gives to the frame's BIP-8.
 fn fill_line(
     by_slots: bool,
     b: u8,
@@ -71,19 +73,20 @@ fn fill_line(
     links: &mut Vec<Link>,
     slots: &mut SlotFrame,
     line: &mut LineOut,
-)
+) -> u8
     ensures gave { (n : ℕ) → EachLink (λ link then. GaveFrame (takes_part past (line-out b) link) n link then)
         links.old.items links.new.items }
     ensures puts { FromBlank (λ link before now. PutsOwn (takes_part past (line-out b) link) link before now)
         links.old.items line.new.frame }
     ensures size { length line.new.frame ≡ FRAME_BYTES }
+    ensures payload { result ≡ payload_parity_of LINE_COLUMNS line.new.frame }
     ensures line { line.new ≡ record line.old { frame = line.new.frame } }
 {
     if by_slots {
-        fill_by_slots(b, past, links, slots, line.begin_whole());
-        return;
+        return fill_by_slots(b, past, links, slots, line.begin_whole());
     }
     fill_blank(b, past, links, line.begin());
+    line.payload_parity()
 }
 
 // The same of a frame that is all 0.
@@ -106,17 +109,19 @@ fn fill_by_slots(
     links: &mut Vec<Link>,
     slots: &mut SlotFrame,
     frame: &mut Frame<LINE_COLUMNS>,
-)
+) -> u8
     ensures gave { (n : ℕ) → EachLink (λ link then. GaveFrame (takes_part past (line-out b) link) n link then)
         links.old.items links.new.items }
     ensures puts { FromBlank (λ link before now. PutsOwn (takes_part past (line-out b) link) link before now)
         links.old.items frame.new }
     ensures size { length frame.new ≡ FRAME_BYTES }
+    ensures payload { result ≡ payload_parity_of LINE_COLUMNS frame.new }
 {
     slots.clear();
     fill_links(b, past, links, slots);
-    slots.join_into(frame);
+    let payload = slots.join_into(frame);
     prove_eq!(frame.as_bytes().len(), LINE_FRAME_BYTES);
+    payload
 }
 
 // Each active connection to line output `b` puts its own into a frame.

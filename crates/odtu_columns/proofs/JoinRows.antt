@@ -1,7 +1,9 @@
 -- The rows of a frame, joined out of their slots.
 use Rattle.std.proofs.Common.{◌≡◌, ◌⊎◌, inl, inr, ℕ, ◌+◌, ◌-◌, ◌<◌, ◌≤◌, List, [], ◌∷◌, length, get_or, ap, sym, subst, ◌∙◌, arith}
 use Rattle.std.proofs.Math.ListN.{get_or-eq_default}
-use Rattle.frame_geometry.specs.Places.{place_of, with_payload_row}
+use Rattle.std.specs.Prelude.{fold, bit_xor}
+use Rattle.frame_geometry.specs.PayloadParity.{row_parity_of, payload_parity_of, same_payload_row}
+use Rattle.frame_geometry.specs.Places.{place_of, same_place, with_payload_row}
 use Rattle.frame_geometry.specs.Loans.{length-with_payload_row}
 use Rattle.odtu_columns.specs.BySlots.{joined_byte, frame_by_slots}
 use Rattle.odtu_columns.specs.Steps.BySlots.{IsOutside, RowJoined}
@@ -118,3 +120,30 @@ all_beside b0 b1 b2 b3 b4 b5 size z1 k1 z2 k2 z3 k3 z4 k4 z5 k5 place out = go (
     go : (place < 16) ⊎ (16 ≤ place) → get_or b5 place 0 ≡ 0
     go (inl l) = k5 place (inl (omega arith)) ∙ k4 place (inl (omega arith)) ∙ k3 place (inl (omega arith)) ∙ k2 place (inl (omega arith)) ∙ z1 place (omega arith) l
     go (inr l) = first_row l (order place 3824)
+
+-- ---- what the rows give to the parity
+
+-- the payload of another row is as it was
+other_row : (rows before now : List ℕ) (row other : ℕ) → length before ≡ 16320 → 1 ≤ row → row ≤ 4 → 1 ≤ other → other ≤ 4 → (row ≡ other → ⊥) → RowJoined rows row before now
+    → row_parity_of 4080 other now ≡ row_parity_of 4080 other before
+other_row rows before now row other size low high least most apart h =
+    ap (fold bit_xor 0) (same_payload_row 4080 other before now (omega arith) size h.size least most (λ x below.
+    h.kept (place_of 4080 other (17 + x)) (λ y l e. apart (sym (same_place 4080 other (17 + x) row (17 + y) least low (omega arith) (omega arith) (omega arith) (omega arith) e).0))))
+
+pub rows_parity : (r1 r2 r3 r4 f0 f1 f2 f3 f4 : List ℕ) (one two three four : ℕ)
+    → RowJoined r1 1 f0 f1 → RowJoined r2 2 f1 f2 → RowJoined r3 3 f2 f3 → RowJoined r4 4 f3 f4
+    → one ≡ row_parity_of 4080 1 f1 → two ≡ row_parity_of 4080 2 f2 → three ≡ row_parity_of 4080 3 f3 → four ≡ row_parity_of 4080 4 f4
+    → bit_xor (bit_xor (bit_xor one two) three) four ≡ payload_parity_of 4080 f4
+rows_parity r1 r2 r3 r4 f0 f1 f2 f3 f4 one two three four h1 h2 h3 h4 e1 e2 e3 e4 =
+    let p1 : one ≡ row_parity_of 4080 1 f4 = e1
+    ∙ sym (other_row r2 f1 f2 2 1 h1.size (omega arith) (omega arith) (omega arith) (omega arith) (λ e. omega arith) h2)
+    ∙ sym (other_row r3 f2 f3 3 1 h2.size (omega arith) (omega arith) (omega arith) (omega arith) (λ e. omega arith) h3)
+    ∙ sym (other_row r4 f3 f4 4 1 h3.size (omega arith) (omega arith) (omega arith) (omega arith) (λ e. omega arith) h4) in
+    let p2 : two ≡ row_parity_of 4080 2 f4 = e2
+    ∙ sym (other_row r3 f2 f3 3 2 h2.size (omega arith) (omega arith) (omega arith) (omega arith) (λ e. omega arith) h3)
+    ∙ sym (other_row r4 f3 f4 4 2 h3.size (omega arith) (omega arith) (omega arith) (omega arith) (λ e. omega arith) h4) in
+    let p3 : three ≡ row_parity_of 4080 3 f4 = e3
+    ∙ sym (other_row r4 f3 f4 4 3 h3.size (omega arith) (omega arith) (omega arith) (omega arith) (λ e. omega arith) h4) in
+    let q = λ (row : ℕ). row_parity_of 4080 row f4 in
+    ap (λ n. bit_xor (bit_xor (bit_xor n two) three) four) p1 ∙ ap (λ n. bit_xor (bit_xor (bit_xor (q 1) n) three) four) p2
+    ∙ ap (λ n. bit_xor (bit_xor (bit_xor (q 1) (q 2)) n) four) p3 ∙ ap (bit_xor (bit_xor (bit_xor (q 1) (q 2)) (q 3))) e4

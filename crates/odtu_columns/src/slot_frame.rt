@@ -1,5 +1,6 @@
 // A frame of an OTU2 whose payload is kept by tributary slots.
 ghost use Rattle.std.specs.Prelude.{◌≡◌, ◌≢◌, ℕ, ◌+◌, ◌-◌, ◌*◌, ◌/◌, ◌%◌, ◌<◌, ◌≤◌, ◌⊎◌, IfOk, length, slice_index};
+ghost use Rattle.frame_geometry.specs.PayloadParity.{payload_parity_of, row_parity_of};
 ghost use Rattle.frame_geometry.specs.Places.{place_of};
 ghost use Rattle.otn_base.specs.LineSlots.{slots_of};
 ghost use Rattle.otn_base.specs.SlotList.{IsSlotList};
@@ -13,6 +14,7 @@ use crate::filled_row::FilledRow;
 use crate::justification::put_message;
 use crate::put::put_groups;
 use frame_geometry::Frame;
+use lane_kernels::parity;
 use otn_base::limits::{
     LAST_PAYLOAD_COLUMN, LINE_COLUMNS, LINE_FRAME_BYTES, OVERHEAD_COLUMNS, PAYLOAD_COLUMNS,
 };
@@ -72,17 +74,20 @@ impl SlotFrame {
         self.row4.clear();
     }
 
-    /// Writes its bytes into a frame, whatever that holds.
-    pub fn join_into(&mut self, frame: &mut Frame<LINE_COLUMNS>)
+    /// Writes its bytes into a frame, whatever that holds. Answers what the payload gives to the frame's BIP-8: it is
+    /// taken of each row as soon as that is written.
+    pub fn join_into(&mut self, frame: &mut Frame<LINE_COLUMNS>) -> u8
         ensures joined { frame.new ≡ self.old }
+        ensures parity { result ≡ payload_parity_of LINE_COLUMNS frame.new }
         ensures kept { self.new ≡ self.old }
     {
         clear_beside_payload(frame);
         put_message(frame, self.message);
-        join_row(&mut self.row1, 1, frame);
-        join_row(&mut self.row2, 2, frame);
-        join_row(&mut self.row3, 3, frame);
-        join_row(&mut self.row4, 4, frame);
+        let one = join_row(&mut self.row1, 1, frame);
+        let two = join_row(&mut self.row2, 2, frame);
+        let three = join_row(&mut self.row3, 3, frame);
+        let four = join_row(&mut self.row4, 4, frame);
+        one ^ two ^ three ^ four
     }
 }
 
@@ -161,14 +166,16 @@ fn clear_run(bytes: &mut [u8], from: usize, to: usize)
     bytes[from..to].fill(0);
 }
 
-// Writes the payload of a row, and keeps every other byte.
-fn join_row(rows: &mut FilledRow, row: u32, frame: &mut Frame<LINE_COLUMNS>)
+// Writes the payload of a row, keeps every other byte, and answers what the row gives to the parity.
+fn join_row(rows: &mut FilledRow, row: u32, frame: &mut Frame<LINE_COLUMNS>) -> u8
     requires low { 1 ≤ row }
     requires high { row ≤ 4 }
     ensures joined { RowJoined rows.old row frame.old frame.new }
+    ensures parity { result ≡ row_parity_of LINE_COLUMNS row frame.new }
     ensures kept { rows.new ≡ rows.old }
 {
     rows.join(frame.payload_row_mut(row));
+    parity(frame.payload_row(row))
 }
 
 // Puts all groups of a row for these slots: bytes of one slot of an OTU2 stand together.

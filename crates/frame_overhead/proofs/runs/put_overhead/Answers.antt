@@ -1,4 +1,4 @@
-use Rattle.std.proofs.Common.{◌≡◌, ◌+◌, ◌*◌, ◌≤◌, length, sym, ◌∙◌, arith, refl}
+use Rattle.std.proofs.Common.{◌≡◌, ◌*◌, length, sym, ◌∙◌}
 use Rattle.frame_geometry.specs.Loans.{after_loan-whole}
 use Rattle.frame_overhead.proofs.Puts.{put_first}
 use Rattle.frame_overhead.proofs.runs.put_overhead.Goals as goal

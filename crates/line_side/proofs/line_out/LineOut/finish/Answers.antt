@@ -1,18 +1,4 @@
-use Rattle.std.proofs.Common.{length, ap, sym, ◌∙◌, refl, ◌+◌}
-use Rattle.std.specs.Prelude.{slice_set}
-use Rattle.frame_geometry.specs.Places.{place_of}
-use Rattle.otn_base.specs.Counts.{saturated}
-use Rattle.line_side.proofs.Made.{made_more}
 use Rattle.line_side.proofs.line_out.LineOut.finish.Goals as goal
 
-pub returns-clause-made : goal.returns-clause-made
-returns-clause-made g c = rw (← c.self.view_is) (λ n form first puts h.
-    let inside = c.self.inside in
-    let put = c.set.ensures.written ∙ ap (λ byte. slice_set inside.frame (place_of 4080 4 15) byte) c.psi_byte.ensures in
-    let sized = ap length (sym c.as_bytes.ensures.bytes) ∙ c.as_bytes.ensures.size in
-    let writes = rw c.as_bytes.ensures.bytes at c.send-counts.ensures.writes in
-    let frames = c.saturating_add-self-inside.ensures ∙ ap (λ k. saturated (inside.frames + k)) c.one_if.ensures in
-    let path = c.write_with.ensures in
-    let section = c.write_with-2.ensures in
-    made_more n form _ first _ _ puts _ _ c.set.new.self c.write_with.new.frame c.write_with-2.new.frame c.apply.new.frame c.send-counts.result refl put path.frame path.sent section.frame section.sent
-    (path.parity ∙ sym section.parity) c.apply.ensures sized writes frames refl refl h)
+pub finish_with-requires : goal.finish_with-requires
+finish_with-requires g c = record { payload = c.payload_parity-payload.ensures }
