@@ -5,7 +5,7 @@ use otn_ports::{
 use std::alloc::Global;
 use std::cell::Cell;
 use std::io;
-use std::io::{Error, ErrorKind, Read};
+use std::io::{Cursor, Error, ErrorKind, Read};
 use std::rc::Rc;
 use std::test::Fail;
 
@@ -102,6 +102,52 @@ fn an_interrupted_look_ahead_is_made_again(rt: HostRuntime) -> Result<(), Fail> 
     let mut source = source(&calls, 1, ErrorKind::Interrupted)?;
     source.look_ahead(rt.alloc());
     assert_eq!(rt; source.peek(), [2, 2, 2, 2, 2].as_slice());
+    Ok(())
+}
+
+// By blocks: what came is given by small pieces, the second call of the reader is refused, and a read that is as large
+// as the block goes without it.
+#[test]
+fn small_reads_go_by_blocks(rt: HostRuntime) -> Result<(), Fail> {
+    let calls = counted(rt.alloc())?;
+    let mut source = source(&calls, 2, ErrorKind::Other)?;
+    source.read_by_blocks(rt.alloc());
+    assert_eq!(rt; calls.get(), 0);
+    let mut into = [0u8; 3];
+    for (answer, byte, left, asked) in [
+        (Ok(3), 1_u8, 2_usize, 1_u8),
+        (Ok(2), 1, 0, 1),
+        (Err(Failed), 1, 0, 2),
+        (Ok(3), 3, 2, 3),
+        (Ok(2), 3, 0, 3),
+        (Ok(3), 4, 2, 4),
+    ] {
+        assert_eq!(rt; source.read(&mut into), answer);
+        assert_eq!(rt; into[0], byte);
+        assert_eq!(rt; source.peek().len(), left);
+        assert_eq!(rt; calls.get(), asked);
+    }
+    assert_eq!(rt; source.read(&mut into), Ok(2));
+    let mut large = zeros(rt.alloc(), 40_000)?;
+    assert_eq!(rt; source.read(&mut large), Ok(5));
+    assert_eq!(rt; source.peek(), [].as_slice());
+    Ok(())
+}
+
+// So many bytes.
+fn zeros(alloc: Global, n: usize) -> Result<Vec<u8>, Fail> {
+    Ok(vec![in alloc; 0u8; n]?)
+}
+
+// A file of text ends where it does, by blocks too.
+#[test]
+fn the_end_comes_behind_the_last_block(rt: HostRuntime) -> Result<(), Fail> {
+    let mut source = ReaderSource::over(Cursor::new(zeros(rt.alloc(), 7)?));
+    source.read_by_blocks(rt.alloc());
+    let mut into = [0u8; 4];
+    for answer in [Ok(4), Ok(3), Ok(0), Ok(0)] {
+        assert_eq!(rt; source.read(&mut into), answer);
+    }
     Ok(())
 }
 

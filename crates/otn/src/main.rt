@@ -86,12 +86,16 @@ fn open_input(rt: &HostRuntime, file: InputFile, bays: &mut FileBays) -> Result<
     requires { IsInput file }
 {
     let alloc = rt.alloc();
-    let Some(source) = input_file(rt, &file.name(alloc)?) else {
+    let Some(mut source) = input_file(rt, &file.name(alloc)?) else {
         return Ok(());
     };
     match file {
         InputFile::Line(n) => bays.set_line_in(n, InPlaceOf::Live(InputPort::Plain(source), 0)),
-        InputFile::Text(n) => bays.set_client_in(n, InPlaceOf::Live(InputPort::Plain(source), 0)),
+        InputFile::Text(n) => {
+            // a text is read by pieces of 4,096 bytes
+            source.read_by_blocks(alloc);
+            bays.set_client_in(n, InPlaceOf::Live(InputPort::Plain(source), 0));
+        }
         InputFile::Capture(n) => {
             let capture = PcapSource::new(alloc, source)?;
             bays.set_client_in(n, InPlaceOf::Live(InputPort::Capture(capture), 0));

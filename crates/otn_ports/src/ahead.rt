@@ -1,5 +1,5 @@
 // What a source over a reader has read ahead of what it gave.
-ghost use Rattle.std.specs.Prelude.{◌≡◌, ◌<◌, ◌≤◌, ◌++◌, [], None, IfOk, IfSome, IsSome, OnErr, length, drop, take, min, vec_len};
+ghost use Rattle.std.specs.Prelude.{◌≡◌, ◌<◌, ◌≤◌, ◌++◌, [], false, true, None, IfOk, IfSome, IsSome, OnErr, length, drop, take, min, vec_len};
 ghost use Rattle.std.specs.Io.KnownBytes.{IsAtEnd, Keeps, ReadConsumes, prepend_known};
 ghost use Rattle.otn_ports.specs.Adapters.{IsFault};
 ghost use Rattle.otn_ports.specs.ReadAhead.{ReadAhead, nothing_ahead, IsRefusal, RefusalAfter};
@@ -11,17 +11,22 @@ use std::alloc::{AllocError, Global};
 use std::io::{ErrorKind, Read};
 use std::marker::Model;
 
-// Bytes that a reader is asked for at a time: eight frames of a line.
+// Bytes that a reader is asked for at a time: eight frames of a line; and where each read goes by the block, as is best
+// where reads are small.
 const BLOCK_BYTES: usize = 8 * LINE_FRAME_BYTES;
 
+const SMALL_BLOCK_BYTES: usize = 32_768;
+
 /// The bytes at hand, which stand in a block, and a refusal that no read has answered yet. The block is made at the
-/// first look ahead.
+/// first look ahead, or where each read is to go by it.
 #[derive(Drop)]
 pub(crate) struct Ahead {
     block: Option<Vec<u8>>,
     from: usize,
     to: usize,
     refused: Option<ErrorKind>,
+    // Whether a read that is smaller than the block goes by it.
+    each: bool,
 }
 
 impl Model for Ahead {
@@ -44,7 +49,21 @@ impl Ahead {
             from: 0,
             to: 0,
             refused: None,
+            each: false,
         }
+    }
+
+    /// Each read goes by the block from here on, which is made where there is none yet. Without memory for it all
+    /// stays as it is.
+    pub(crate) fn go_by_blocks(&mut self, alloc: Global)
+        ensures { self.new ≡ self.old }
+    {
+        if self.block.is_none() {
+            self.from = 0;
+            self.to = 0;
+            self.block = room(alloc, SMALL_BLOCK_BYTES).ok();
+        }
+        self.each = self.block.is_some();
     }
 
     /// The bytes at hand.
@@ -79,13 +98,58 @@ impl Ahead {
             return;
         }
         if let Some(block) = block_of(alloc, self.block.take()) {
-            *self = read_ahead(reader, block);
+            *self = read_ahead(reader, block, self.each);
         }
     }
 
     /// Gives the bytes at hand, as many as fit. Where there are none it answers the refusal that stands, and else makes
-    /// one read of this reader.
+    /// one read of this reader: into the block, where each read goes by it.
     pub(crate) fn read<R: Read>(
+        &mut self,
+        reader: &mut R,
+        fault: &mut Option<ErrorKind>,
+        into: &mut [u8],
+    ) -> Result<usize, Failed>
+        ensures bound { IfOk result (λ n. n ≤ length into.old) }
+        ensures fault { OnErr result (IsFault fault.new) }
+        ensures bytes { ReadConsumes (prepend_known self.old.bytes (R.remaining reader.old))
+            (prepend_known self.new.bytes (R.remaining reader.new)) result into.new }
+        ensures held { RefusalAfter self.old.refused self.old.bytes result fault.new self.new.refused }
+    {
+        if self.refill(reader, into.len()) {
+            return Ok(0);
+        }
+        self.read_on(reader, fault, into)
+    }
+
+    // Where each read goes by the block, and one of so many bytes is smaller: looks ahead as `fill`. Says whether its
+    // reader has ended.
+    fn refill<R: Read>(&mut self, reader: &mut R, many: usize) -> bool
+        ensures bytes { Keeps (prepend_known self.old.bytes (R.remaining reader.old))
+            (prepend_known self.new.bytes (R.remaining reader.new)) }
+        ensures hand { 0 < length self.old.bytes → (self.new ≡ self.old) × (result ≡ false) }
+        ensures held { IsSome self.old.refused → (self.new ≡ self.old) × (result ≡ false) }
+        ensures alone { 0 < length self.new.bytes → self.new.refused ≡ self.old.refused }
+        ensures ended { result ≡ true → (self.new ≡ nothing_ahead)
+            × IsAtEnd (prepend_known self.new.bytes (R.remaining reader.new)) }
+    {
+        if !self.each || !self.bytes().is_empty() || self.refused.is_some() {
+            return false;
+        }
+        match self.block.take() {
+            Some(block) if many < block.len() => {
+                *self = read_ahead(reader, block, true);
+                self.bytes().is_empty() && self.refused.is_none()
+            }
+            block => {
+                self.block = block;
+                false
+            }
+        }
+    }
+
+    // The same without a look ahead.
+    fn read_on<R: Read>(
         &mut self,
         reader: &mut R,
         fault: &mut Option<ErrorKind>,
@@ -131,8 +195,9 @@ impl Ahead {
 }
 
 // What one read of a reader puts at hand. A refusal is kept.
-fn read_ahead<R: Read>(reader: &mut R, mut block: Vec<u8>) -> Ahead
+fn read_ahead<R: Read>(reader: &mut R, mut block: Vec<u8>, each: bool) -> Ahead
     requires room { 0 < vec_len block }
+    ensures alone { 0 < length result.bytes → result.refused ≡ None }
     ensures bytes { Keeps (R.remaining reader.old) (prepend_known result.bytes (R.remaining reader.new)) }
     ensures end { result ≡ nothing_ahead → IsAtEnd (R.remaining reader.new) }
 {
@@ -144,6 +209,7 @@ fn read_ahead<R: Read>(reader: &mut R, mut block: Vec<u8>) -> Ahead
             from: 0,
             to: 0,
             refused,
+            each,
         },
     };
     Ahead {
@@ -151,6 +217,7 @@ fn read_ahead<R: Read>(reader: &mut R, mut block: Vec<u8>) -> Ahead
         from: 0,
         to,
         refused: None,
+        each,
     }
 }
 

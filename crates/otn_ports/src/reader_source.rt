@@ -61,6 +61,15 @@ impl<R> ReaderSource<R> {
             ahead: Ahead::new(),
         }
     }
+
+    /// From here on its reader is asked for 32 KiB at a time, out of which smaller reads are answered: as is best for
+    /// text, which is read by small pieces. What it gives is the same. Without memory for such a block all stays as it
+    /// is.
+    pub fn read_by_blocks(&mut self, alloc: Global)
+        ensures { self.new ≡ self.old }
+    {
+        self.ahead.go_by_blocks(alloc);
+    }
 }
 
 impl<R: Read + Drop> Source for ReaderSource<R> {
