@@ -57,19 +57,19 @@ among_other wide at k j b low room beside = go (order b k)
         below (inl ge) = same (let e : b ≡ k = omega arith in e) beside
         below (inr lt) = let l = lower wide b k lt in inr (omega arith)
 
-pub together_here : (lists into new : List ℕ) (at count first step from done : ℕ) → 8 ≤ step → from ≤ done
-    → ((k j : ℕ) → k < 8 → j < done → j < count → get_or into (first + step * j + k) 0 ≡ get_or lists (at + count * k + j) 0)
-    → ((g b : ℕ) → g < 16 → b < 8 → get_or new (first + step * from + step * g + b) 0 ≡ get_or lists (at + from + count * b + g) 0)
+pub together_here : (lists into new : List ℕ) (at count wide first step from done : ℕ) → 8 ≤ step → from ≤ done
+    → ((k j : ℕ) → k < 8 → j < done → j < count → get_or into (first + step * j + k) 0 ≡ get_or lists (at + wide * k + j) 0)
+    → ((g b : ℕ) → g < 16 → b < 8 → get_or new (first + step * from + step * g + b) 0 ≡ get_or lists (at + from + wide * b + g) 0)
     → ((n : ℕ) → ((g : ℕ) → g < 16 → (n < first + step * from + step * g) ⊎ (first + step * from + step * g + 8 ≤ n)) → get_or new n 0 ≡ get_or into n 0)
-    → (k j : ℕ) → k < 8 → j < from + 16 → j < count → get_or new (first + step * j + k) 0 ≡ get_or lists (at + count * k + j) 0
-together_here lists into new at count first step from done wide low before here others k j lk lj inside = go (order from j)
+    → (k j : ℕ) → k < 8 → j < from + 16 → j < count → get_or new (first + step * j + k) 0 ≡ get_or lists (at + wide * k + j) 0
+together_here lists into new at count wide first step from done apart low before here others k j lk lj inside = go (order from j)
   where
-    go : (from ≤ j) ⊎ (j < from) → get_or new (first + step * j + k) 0 ≡ get_or lists (at + count * k + j) 0
+    go : (from ≤ j) ⊎ (j < from) → get_or new (first + step * j + k) 0 ≡ get_or lists (at + wide * k + j) 0
     go (inl h) =
         let s = steps step from j h in
         ap (λ n. get_or new n 0) (let e : first + step * j + k ≡ first + step * from + step * (j - from) + k = omega arith in e)
         ∙ here (j - from) k (omega arith) lk
-        ∙ ap (λ n. get_or lists n 0) (let e : at + from + count * k + (j - from) ≡ at + count * k + j = omega arith in e)
+        ∙ ap (λ n. get_or lists n 0) (let e : at + from + wide * k + (j - from) ≡ at + wide * k + j = omega arith in e)
     go (inr h) =
         others (first + step * j + k) (λ g lg.
         let l = lower step j (from + g) (omega arith) in

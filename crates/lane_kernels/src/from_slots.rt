@@ -1,5 +1,5 @@
 // A row out of its slots.
-ghost use Rattle.std.specs.Prelude.{◌≡◌, ℕ, ◌+◌, ◌*◌, ◌/◌, ◌%◌, ◌<◌, length, slice_index};
+ghost use Rattle.std.specs.Prelude.{◌≡◌, ℕ, ◌+◌, ◌*◌, ◌/◌, ◌%◌, ◌<◌, ◌≤◌, length, slice_index};
 ghost use Rattle.lane_kernels.specs.SlotPlaces.{slot_bytes};
 ghost use Rattle.otn_base.specs.declared.limits.TheConstants.{OTU2_SLOTS, OTU3_SLOTS, PAYLOAD_COLUMNS};
 ghost use Rattle.lane_kernels.specs.declared.slot_rows.TheConstants.{OTU2_SLOT_ROW, OTU3_SLOT_ROW};
@@ -32,13 +32,27 @@ pub fn join8(rows: &SlotRows<OTU2_SLOTS>, into: &mut [u8])
     join(rows, into);
 }
 
+/// Writes the payload of a row of an OTU2, 3,808 bytes, out of bytes that have `wide` for each slot, those of the row
+/// behind the first `at` of them: byte x, from 0, is byte `at + x / 8` of slot `x % 8 + 1` (G.709 clause 19.1).
+#[inline]
+pub fn join8_among(lists: &[u8], at: usize, wide: usize, into: &mut [u8])
+    requires lists { length lists.now ≡ OTU2_SLOTS * wide }
+    requires at { at + OTU2_SLOT_ROW ≤ wide }
+    requires into { length into.old ≡ PAYLOAD_COLUMNS }
+    ensures size { length into.new ≡ PAYLOAD_COLUMNS }
+    ensures joined { (k j : ℕ) → k < OTU2_SLOTS → j < OTU2_SLOT_ROW
+        → slice_index into.new (OTU2_SLOTS * j + k) ≡ slice_index lists.now (wide * k + at + j) }
+{
+    turn::together(lists, at, OTU2_SLOT_ROW, wide, into, 0, OTU2_SLOTS);
+}
+
 fn join_eight(lists: &[u8], into: &mut [u8])
     requires lists { length lists.now ≡ PAYLOAD_COLUMNS }
     requires into { length into.old ≡ PAYLOAD_COLUMNS }
     ensures { (k j : ℕ) → k < OTU2_SLOTS → j < OTU2_SLOT_ROW
         → slice_index into.new (OTU2_SLOTS * j + k) ≡ slice_index lists.now (OTU2_SLOT_ROW * k + j) }
 {
-    turn::together(lists, 0, OTU2_SLOT_ROW, into, 0, OTU2_SLOTS);
+    join8_among(lists, 0, OTU2_SLOT_ROW, into);
 }
 
 // Eight slots after the other.
@@ -52,6 +66,7 @@ fn join_thirty_two(lists: &[u8], into: &mut [u8])
         turn::together(
             lists,
             GROUP * OTU3_SLOT_ROW * quarter,
+            OTU3_SLOT_ROW,
             OTU3_SLOT_ROW,
             into,
             GROUP * quarter,

@@ -21,7 +21,7 @@ mod spread;
 mod turn;
 
 pub use exclusive_or::{parity, xor_mask};
-pub use from_slots::{join, join8};
+pub use from_slots::{join, join8, join8_among};
 pub use into_slots::{split, split8, split8_among};
 pub use one_slot::{put_slot, take_slot};
 pub use several::take_slots;

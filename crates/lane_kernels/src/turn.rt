@@ -33,28 +33,30 @@ pub(crate) fn apart(
     }
 }
 
-/// Writes such groups out of the eight lists that stand at `at`.
+/// Writes such groups out of the eight lists that stand at `at`, likewise each `wide` bytes behind the one before it.
 #[inline(always)]
 pub(crate) fn together(
     lists: &[u8],
     at: usize,
     count: usize,
+    wide: usize,
     into: &mut [u8],
     first: usize,
     step: usize,
 )
     requires count { 16 ≤ count }
+    requires wide { count ≤ wide }
     requires step { 8 ≤ step }
-    requires lists { at + count * 8 ≤ length lists.now }
+    requires lists { at + wide * 7 + count ≤ length lists.now }
     requires into { first + step * count + 8 ≤ length into.old + step }
     ensures here { (k j : ℕ) → k < 8 → j < count
-        → slice_index into.new (first + step * j + k) ≡ slice_index lists.now (at + count * k + j) }
+        → slice_index into.new (first + step * j + k) ≡ slice_index lists.now (at + wide * k + j) }
     ensures others { (n : ℕ) → ((j : ℕ) → j < count → (n < first + step * j) ⊎ (first + step * j + 8 ≤ n))
         → slice_index into.new n ≡ slice_index into.old n }
 {
     for block in 0..count / 16 + 1 {
         let from = (16 * block).min(count - 16);
-        block_together(lists, at + from, count, into, first + step * from, step);
+        block_together(lists, at + from, wide, into, first + step * from, step);
     }
 }
 

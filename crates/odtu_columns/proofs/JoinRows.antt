@@ -1,16 +1,16 @@
 -- The rows of a frame, joined out of their slots.
-use Rattle.std.proofs.Common.{◌≡◌, ◌⊎◌, inl, inr, ℕ, ◌+◌, ◌-◌, ◌<◌, ◌≤◌, List, [], ◌∷◌, length, get_or, ap, sym, subst, ◌∙◌, arith}
+use Rattle.std.proofs.Common.{◌≡◌, ◌⊎◌, inl, inr, ℕ, ◌+◌, ◌-◌, ◌<◌, ◌≤◌, List, length, get_or, ap, sym, subst, ◌∙◌, arith}
 use Rattle.std.proofs.Math.ListN.{get_or-eq_default}
 use Rattle.std.specs.Prelude.{fold, bit_xor}
 use Rattle.frame_geometry.specs.PayloadParity.{row_parity_of, payload_parity_of, same_payload_row}
 use Rattle.frame_geometry.specs.Places.{place_of, same_place, with_payload_row}
 use Rattle.frame_geometry.specs.Loans.{length-with_payload_row}
-use Rattle.odtu_columns.specs.BySlots.{joined_byte, frame_by_slots}
+use Rattle.odtu_columns.specs.BySlots.{slot_byte, frame_by_slots}
 use Rattle.odtu_columns.specs.Steps.BySlots.{IsOutside, RowJoined}
 use Rattle.odtu_columns.proofs.BySlots.{is_frame}
 use Rattle.odtu_columns.proofs.PutRows.{written_byte, kept_byte, where_is}
 
-pub row_joined : (rows frame new : List ℕ) (row : ℕ) → 1 ≤ row → row ≤ 4 → length frame ≡ 16320 → length new ≡ 3808 → ((x : ℕ) → x < 3808 → get_or new x 0 ≡ joined_byte rows x)
+pub row_joined : (rows frame new : List ℕ) (row : ℕ) → 1 ≤ row → row ≤ 4 → length frame ≡ 16320 → length new ≡ 3808 → ((x : ℕ) → x < 3808 → get_or new x 0 ≡ slot_byte rows (row - 1) x)
     → RowJoined rows row frame (with_payload_row 4080 row frame new)
 row_joined rows frame new row low high size long joined = record {
   size = length-with_payload_row 4080 row frame new (omega arith) ∙ size;
@@ -30,9 +30,10 @@ row_joined rows frame new row low high size long joined = record {
 pub row_number : (row : ℕ) → 1 ≤ row → row ≤ 4 → (row ≡ 1) ⊎ ((row ≡ 2) ⊎ ((row ≡ 3) ⊎ (row ≡ 4)))
 row_number row low high = grind arith
 
-pub frame_joined : (own r1 r2 r3 r4 f0 f1 f2 f3 f4 : List ℕ) → length own ≡ 16320 → ((place : ℕ) → IsOutside place → get_or f0 place 0 ≡ get_or own place 0) → RowJoined r1 1 f0 f1 → RowJoined r2 2 f1 f2 → RowJoined r3 3 f2 f3 → RowJoined r4 4 f3 f4
-    → f4 ≡ frame_by_slots own (r1 ∷ r2 ∷ r3 ∷ r4 ∷ [])
-frame_joined own r1 r2 r3 r4 f0 f1 f2 f3 f4 size rest h1 h2 h3 h4 = is_frame own f4 (r1 ∷ r2 ∷ r3 ∷ r4 ∷ []) size h4.size (λ row x low high h. joined row x h (row_number row low high)) kept
+pub frame_joined : (own s1 s2 s3 s4 f0 f1 f2 f3 f4 : List ℕ) → length own ≡ 16320 → ((place : ℕ) → IsOutside place → get_or f0 place 0 ≡ get_or own place 0)
+    → RowJoined s1 1 f0 f1 → RowJoined s2 2 f1 f2 → RowJoined s3 3 f2 f3 → RowJoined s4 4 f3 f4 → s2 ≡ s1 → s3 ≡ s2 → s4 ≡ s3
+    → f4 ≡ frame_by_slots own s1
+frame_joined own s1 s2 s3 s4 f0 f1 f2 f3 f4 size rest h1 h2 h3 h4 e2 e3 e4 = is_frame own f4 s1 size h4.size (λ row x low high h. joined row x h (row_number row low high)) kept
   where
     kept : (place : ℕ) → IsOutside place → get_or f4 place 0 ≡ get_or own place 0
     kept place out =
@@ -42,29 +43,27 @@ frame_joined own r1 r2 r3 r4 f0 f1 f2 f3 f4 size rest h1 h2 h3 h4 = is_frame own
         ∙ h1.kept place (λ x h e. out 1 x (omega arith) (omega arith) h e)
         ∙ rest place out
 
-    joined : (row x : ℕ) → x < 3808 → (row ≡ 1) ⊎ ((row ≡ 2) ⊎ ((row ≡ 3) ⊎ (row ≡ 4))) → get_or f4 (place_of 4080 row (17 + x)) 0 ≡ joined_byte (get_or (r1 ∷ r2 ∷ r3 ∷ r4 ∷ []) (row - 1) []) x
+    joined : (row x : ℕ) → x < 3808 → (row ≡ 1) ⊎ ((row ≡ 2) ⊎ ((row ≡ 3) ⊎ (row ≡ 4))) → get_or f4 (place_of 4080 row (17 + x)) 0 ≡ slot_byte s1 (row - 1) x
     joined row x h (inl one) =
-        subst (λ k. get_or f4 (place_of 4080 k (17 + x)) 0 ≡ joined_byte (get_or (r1 ∷ r2 ∷ r3 ∷ r4 ∷ []) (k - 1) []) x) (sym one)
+        subst (λ k. get_or f4 (place_of 4080 k (17 + x)) 0 ≡ slot_byte s1 (k - 1) x) (sym one)
         (h4.kept (place_of 4080 1 (17 + x)) (λ y l e. omega arith)
         ∙ h3.kept (place_of 4080 1 (17 + x)) (λ y l e. omega arith)
         ∙ h2.kept (place_of 4080 1 (17 + x)) (λ y l e. omega arith)
         ∙ h1.here x h)
     joined row x h (inr (inl two)) =
-        subst (λ k. get_or f4 (place_of 4080 k (17 + x)) 0 ≡ joined_byte (get_or (r1 ∷ r2 ∷ r3 ∷ r4 ∷ []) (k - 1) []) x) (sym two)
+        subst (λ k. get_or f4 (place_of 4080 k (17 + x)) 0 ≡ slot_byte s1 (k - 1) x) (sym two)
         (h4.kept (place_of 4080 2 (17 + x)) (λ y l e. omega arith)
         ∙ h3.kept (place_of 4080 2 (17 + x)) (λ y l e. omega arith)
-        ∙ h2.here x h)
+        ∙ h2.here x h
+        ∙ ap (λ s. slot_byte s 1 x) e2)
     joined row x h (inr (inr (inl three))) =
-        subst (λ k. get_or f4 (place_of 4080 k (17 + x)) 0 ≡ joined_byte (get_or (r1 ∷ r2 ∷ r3 ∷ r4 ∷ []) (k - 1) []) x) (sym three)
+        subst (λ k. get_or f4 (place_of 4080 k (17 + x)) 0 ≡ slot_byte s1 (k - 1) x) (sym three)
         (h4.kept (place_of 4080 3 (17 + x)) (λ y l e. omega arith)
-        ∙ h3.here x h)
+        ∙ h3.here x h
+        ∙ ap (λ s. slot_byte s 2 x) (e3 ∙ e2))
     joined row x h (inr (inr (inr four))) =
-        subst (λ k. get_or f4 (place_of 4080 k (17 + x)) 0 ≡ joined_byte (get_or (r1 ∷ r2 ∷ r3 ∷ r4 ∷ []) (k - 1) []) x) (sym four)
-        (h4.here x h)
-
--- rows that are as they were
-pub rows_kept : (own r1 r2 r3 r4 s1 s2 s3 s4 : List ℕ) → s1 ≡ r1 → s2 ≡ r2 → s3 ≡ r3 → s4 ≡ r4 → frame_by_slots own (s1 ∷ s2 ∷ s3 ∷ s4 ∷ []) ≡ frame_by_slots own (r1 ∷ r2 ∷ r3 ∷ r4 ∷ [])
-rows_kept own r1 r2 r3 r4 s1 s2 s3 s4 one two three four = cc
+        subst (λ k. get_or f4 (place_of 4080 k (17 + x)) 0 ≡ slot_byte s1 (k - 1) x) (sym four)
+        (h4.here x h ∙ ap (λ s. slot_byte s 3 x) (e4 ∙ e3 ∙ e2))
 
 -- ---- the bytes that are in no payload column
 

@@ -8,9 +8,9 @@ pub mod PutRows
 pub mod PutMessage
 pub mod PutBack
 pub mod PutGroup
+pub mod PutSlot
 pub mod BySlots
-pub mod SlotBytes
-pub mod FilledRows
+pub mod FilledSlots
 pub mod SlotRuns
 pub mod JoinRows
 pub mod MessageFrames

@@ -1,8 +1,7 @@
--- API: a line's frame whose payload is kept by the tributary slots of an OTU2, each row for itself.
-use Rattle.std.specs.Prelude.{◌≡◌, ℕ, ◌+◌, ◌-◌, ◌*◌, ◌/◌, ◌%◌, ◌<◌, ◌≤◌, Bool, false, ◌&&◌, nat_le, nat_lt, if◌then◌else◌, ◌==◌, List, [], get_or, map, slice_index}
+-- API: a line's frame whose payload is kept by the tributary slots of an OTU2.
+use Rattle.std.specs.Prelude.{◌≡◌, ℕ, ◌+◌, ◌-◌, ◌*◌, ◌/◌, ◌%◌, ◌<◌, ◌≤◌, Bool, false, ◌&&◌, nat_le, nat_lt, if◌then◌else◌, ◌==◌, List, get_or, map, slice_index}
 use Rattle.std.specs.List.{range_with_len}
 use Rattle.frame_geometry.specs.Places.{place_of}
-use Rattle.lane_kernels.specs.SlotPlaces.{slot_bytes}
 use Rattle.otn_base.specs.declared.limits.TheConstants.{LINE_COLUMNS, LINE_FRAME_BYTES, OTU2_SLOTS, PAYLOAD_COLUMNS, OVERHEAD_COLUMNS, ROWS}
 
 -- G.709 clause 12.1: the payload of a row stands in columns 17 to 3824
@@ -10,22 +9,25 @@ abbrev pub is_payload : (place : ℕ) → Bool
 is_payload place = nat_le OVERHEAD_COLUMNS (place % LINE_COLUMNS)
     && nat_lt (place % LINE_COLUMNS) (OVERHEAD_COLUMNS + PAYLOAD_COLUMNS)
 
--- G.709 clause 19.1: byte x, from 0, of the payload of a row, out of the bytes of its slots
-abbrev pub joined_byte : (rows : List ℕ) → (x : ℕ) → ℕ
-joined_byte rows x = slice_index (slot_bytes OTU2_SLOTS (x % OTU2_SLOTS + 1) rows) (x / OTU2_SLOTS)
+-- G.709 clause 19.1: byte x, from 0, of the payload of a row, from 0, out of the bytes of the slots of a frame, which
+-- stand one slot after the other, those of a slot row by row
+abbrev pub slot_byte : (slots : List ℕ) → (row x : ℕ) → ℕ
+slot_byte slots row x = slice_index slots (ROWS * (PAYLOAD_COLUMNS / OTU2_SLOTS) * (x % OTU2_SLOTS)
+    + PAYLOAD_COLUMNS / OTU2_SLOTS * row + x / OTU2_SLOTS)
 
--- Byte i, from 0, of those of the slots of a row, one slot after the other: 0 where its slot is not filled.
-abbrev pub filled_byte : (filled : List Bool) → (rows : List ℕ) → (i : ℕ) → ℕ
-filled_byte filled rows i = if get_or filled (i / (PAYLOAD_COLUMNS / OTU2_SLOTS)) false then slice_index rows i else 0
+-- Byte n, from 0, of those of the slots of a frame: 0 where its slot is not filled.
+abbrev pub filled_byte : (filled : List Bool) → (slots : List ℕ) → (n : ℕ) → ℕ
+filled_byte filled slots n =
+    if get_or filled (n / (ROWS * (PAYLOAD_COLUMNS / OTU2_SLOTS))) false then slice_index slots n else 0
 
-unfoldable pub filled_row : (filled : List Bool) → (rows : List ℕ) → List ℕ
-filled_row filled rows = map (filled_byte filled rows) (range_with_len 0 PAYLOAD_COLUMNS)
+unfoldable pub filled_slots : (filled : List Bool) → (slots : List ℕ) → List ℕ
+filled_slots filled slots = map (filled_byte filled slots) (range_with_len 0 (ROWS * PAYLOAD_COLUMNS))
 
 -- The byte at a place: in a payload column that of its slot, and else that of the frame.
-unfoldable pub byte_by_slots : (frame : List ℕ) → (rows : List (List ℕ)) → (place : ℕ) → ℕ
-byte_by_slots frame rows place =
-    if is_payload place then joined_byte (get_or rows (place / LINE_COLUMNS) [])
-    (place % LINE_COLUMNS - OVERHEAD_COLUMNS) else slice_index frame place
+unfoldable pub byte_by_slots : (frame slots : List ℕ) → (place : ℕ) → ℕ
+byte_by_slots frame slots place =
+    if is_payload place then slot_byte slots (place / LINE_COLUMNS) (place % LINE_COLUMNS - OVERHEAD_COLUMNS)
+    else slice_index frame place
 
 -- G.709 clause 19.4: the byte at a place of a frame that has this message, where all else is 0
 abbrev pub message_byte : (message : List ℕ) → (place : ℕ) → ℕ
@@ -37,9 +39,9 @@ message_byte message place =
 unfoldable pub message_frame : (message : List ℕ) → List ℕ
 message_frame message = map (message_byte message) (range_with_len 0 LINE_FRAME_BYTES)
 
--- The frame that these bytes of its slots, row by row, and the other bytes of this frame stand for.
-unfoldable pub frame_by_slots : (frame : List ℕ) → (rows : List (List ℕ)) → List ℕ
-frame_by_slots frame rows = map (byte_by_slots frame rows) (range_with_len 0 LINE_FRAME_BYTES)
+-- The frame that these bytes of its slots, and the other bytes of this frame, stand for.
+unfoldable pub frame_by_slots : (frame slots : List ℕ) → List ℕ
+frame_by_slots frame slots = map (byte_by_slots frame slots) (range_with_len 0 LINE_FRAME_BYTES)
 
 -- G.709 clause 19.1: the bytes of the slots of a frame's payload, one slot after the other, those of a slot row by row
 pub record IsPayloadOf (frame by_slots : List ℕ) : Type 0 where

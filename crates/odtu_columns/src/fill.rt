@@ -2,14 +2,14 @@
 ghost use Rattle.std.specs.Prelude.{◌≡◌, ◌*◌, ◌/◌, ◌≤◌, ℕ, List, length, slice_index};
 ghost use Rattle.frame_geometry.specs.Places.{place_of};
 ghost use Rattle.otn_base.specs.LineSlots.{slots_of};
-ghost use Rattle.otn_base.specs.declared.limits.TheConstants.{LINE_COLUMNS, PAYLOAD_COLUMNS};
+ghost use Rattle.otn_base.specs.declared.limits.TheConstants.{LINE_COLUMNS, OTU2_SLOTS, PAYLOAD_COLUMNS, ROWS};
 ghost use Rattle.odtu_columns.specs.Groups.{row_groups_of};
 ghost use Rattle.odtu_columns.specs.Message.{message_of};
-ghost use Rattle.odtu_columns.specs.Put.{RowWasPut};
+ghost use Rattle.odtu_columns.specs.Put.{RowWasPut, SlotWasPut};
 
 use crate::RowGroups;
 use crate::justification::put_message;
-use crate::put::{lay_row_groups, put_row_groups};
+use crate::put::{lay_row_groups, lay_slot, put_row_groups};
 use frame_geometry::Frame;
 use otn_base::Slots;
 use otn_base::limits::LINE_COLUMNS;
@@ -48,6 +48,16 @@ pub trait FillFrame: Drop {
         ensures { RowWasPut (slots_of slots.now.kind) slots.now.list row (G.groups groups.now) (bytes self.old)
             (bytes self.new) };
 
+    /// Writes all groups of the frame for one slot of an OTU2, 1,904 of them, one after the other, out of what lays
+    /// them out; every byte that is not of the slot stays. What the scratch bytes are is of no account, before and
+    /// behind the call.
+    fn lay_slot<G: RowGroups>(&mut self, slots: &Slots, groups: &G, scratch: &mut [u8])
+        requires line { slots_of slots.now.kind ≡ OTU2_SLOTS }
+        requires one { length slots.now.list ≡ 1 }
+        requires size { length (G.groups groups.now) ≡ ROWS * (PAYLOAD_COLUMNS / OTU2_SLOTS) }
+        requires scratch { length scratch.old ≡ length (G.groups groups.now) }
+        ensures { SlotWasPut slots.now.list (G.groups groups.now) (bytes self.old) (bytes self.new) };
+
     /// Writes JC1 to JC6, in this order; every other byte stays.
     fn fill_message(&mut self, message: [u8; 6])
         ensures message { message_of (bytes self.new) ≡ message }
@@ -71,6 +81,10 @@ impl FillFrame for Frame<LINE_COLUMNS> {
         scratch: &mut [u8],
     ) {
         lay_row_groups(self, row, slots, groups, scratch);
+    }
+
+    fn lay_slot<G: RowGroups>(&mut self, slots: &Slots, groups: &G, scratch: &mut [u8]) {
+        lay_slot(self, slots, groups, scratch);
     }
 
     fn fill_message(&mut self, message: [u8; 6]) {

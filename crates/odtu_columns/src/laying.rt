@@ -1,7 +1,7 @@
-// The groups of a row, before they are in one.
+// The groups of a row or of a frame, before they are in one.
 ghost use Rattle.std.specs.Prelude.{◌≡◌, ℕ, List, length};
 
-/// The groups of a row, one after the other, that can be laid out where they are wanted.
+/// The groups of a row, or those of a frame, one after the other, that can be laid out where they are wanted.
 pub trait RowGroups: Drop {
     /// Their bytes.
     ghost groups: { Self → List ℕ };

@@ -5,9 +5,9 @@
 //! - `put`: the same, written.
 //! - `justification`: its justification bytes.
 //! - `fill`: `FillFrame`, a frame that sources fill.
-//! - `laying`: `RowGroups`, the groups of a row before they are in one.
+//! - `laying`: `RowGroups`, groups before they are in a frame.
 //! - `slot_frame`: `SlotFrame`, such a frame that is kept by slots.
-//! - `filled_row`: a row of it, of which some slots are filled.
+//! - `filled_slots`: its payload, of which some slots are filled.
 //! - `take`: `TakeFrame`, a frame of which sinks take.
 //! - `slot_payload`: `SlotPayload`, the payload of a frame by slots.
 //! - `split_frame`: `SplitFrame`, a frame of which sinks take, beside its payload by slots.
@@ -15,7 +15,7 @@
 #![tactic(auto)]
 
 mod fill;
-mod filled_row;
+mod filled_slots;
 mod groups;
 mod justification;
 mod laying;

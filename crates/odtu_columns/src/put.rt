@@ -3,13 +3,14 @@ ghost use Rattle.std.specs.Prelude.{◌≡◌, ◌≢◌, [], ◌∷◌, ◌+◌
 ghost use Rattle.frame_geometry.specs.Places.{place_of};
 ghost use Rattle.otn_base.specs.LineSlots.{slots_of};
 ghost use Rattle.otn_base.specs.SlotList.{IsSlotList};
-ghost use Rattle.otn_base.specs.declared.limits.TheConstants.{GROUPS, LINE_COLUMNS, PAYLOAD_COLUMNS};
+ghost use Rattle.otn_base.specs.declared.limits.TheConstants.{GROUPS, LINE_COLUMNS, OTU2_SLOTS, PAYLOAD_COLUMNS, ROWS};
 ghost use Rattle.odtu_columns.specs.Columns.{slot_row_of};
 ghost use Rattle.odtu_columns.specs.Groups.{frame_group, row_groups_of};
-ghost use Rattle.odtu_columns.specs.Put.{slot_place, RowWasPut};
+ghost use Rattle.odtu_columns.specs.Put.{slot_place, RowWasPut, SlotWasPut};
 
 use crate::RowGroups;
 use crate::line::{cycles_in_row, put_one, put_several};
+use crate::slot_payload::SLOT_ROW;
 use frame_geometry::Frame;
 use otn_base::limits::{LINE_COLUMNS, OVERHEAD_COLUMNS};
 use otn_base::{LineKind, Slots};
@@ -50,6 +51,46 @@ pub(crate) fn lay_row_groups<G: RowGroups>(
         scratch,
         frame.payload_row_mut(row),
     );
+}
+
+/// Writes all groups of a frame for one slot of an OTU2 out of what lays them out; every byte that is not of the slot
+/// stays.
+pub(crate) fn lay_slot<G: RowGroups>(
+    frame: &mut Frame<LINE_COLUMNS>,
+    slots: &Slots,
+    groups: &G,
+    scratch: &mut [u8],
+)
+    requires line { slots_of slots.now.kind ≡ OTU2_SLOTS }
+    requires one { length slots.now.list ≡ 1 }
+    requires size { length (G.groups groups.now) ≡ ROWS * (PAYLOAD_COLUMNS / OTU2_SLOTS) }
+    requires scratch { length scratch.old ≡ length (G.groups groups.now) }
+    ensures { SlotWasPut slots.now.list (G.groups groups.now) frame.old frame.new }
+{
+    let slot = slots.last();
+    groups.lay(scratch);
+    put_own_row(frame, 1, slot, scratch);
+    put_own_row(frame, 2, slot, scratch);
+    put_own_row(frame, 3, slot, scratch);
+    put_own_row(frame, 4, slot, scratch);
+}
+
+// Puts the bytes of a slot of an OTU2 (1 to 8) in a row (1 to 4) out of those that it has in the frame.
+fn put_own_row(frame: &mut Frame<LINE_COLUMNS>, row: u32, slot: u8, bytes: &[u8])
+    requires low { 1 ≤ row }
+    requires high { row ≤ 4 }
+    requires slot_low { 1 ≤ slot }
+    requires slot_high { slot ≤ OTU2_SLOTS }
+    requires size { length bytes.now ≡ ROWS * (PAYLOAD_COLUMNS / OTU2_SLOTS) }
+    ensures put { (cycle : ℕ) → cycle < PAYLOAD_COLUMNS / OTU2_SLOTS
+        → slice_index frame.new (place_of LINE_COLUMNS row (16 + OTU2_SLOTS * cycle + slot))
+        ≡ slice_index bytes.now (PAYLOAD_COLUMNS / OTU2_SLOTS * (row - 1) + cycle) }
+    ensures kept { (place : ℕ) → ((cycle : ℕ) → cycle < PAYLOAD_COLUMNS / OTU2_SLOTS
+        → place ≡ place_of LINE_COLUMNS row (16 + OTU2_SLOTS * cycle + slot) → ⊥)
+        → slice_index frame.new place ≡ slice_index frame.old place }
+{
+    let at = SLOT_ROW * (row as usize - 1);
+    put_slot_row(frame, LineKind::Otu2, slot, row, &bytes[at..at + SLOT_ROW]);
 }
 
 /// Writes the bytes of a slot (1 to 8 on an OTU2, 1 to 32 on an OTU3) in a row (1 to 4), 476 or 119, in the

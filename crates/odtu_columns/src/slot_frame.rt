@@ -4,13 +4,13 @@ ghost use Rattle.frame_geometry.specs.PayloadParity.{payload_parity_of, row_pari
 ghost use Rattle.frame_geometry.specs.Places.{place_of};
 ghost use Rattle.otn_base.specs.LineSlots.{slots_of};
 ghost use Rattle.otn_base.specs.SlotList.{IsSlotList};
-ghost use Rattle.otn_base.specs.declared.limits.TheConstants.{LINE_COLUMNS, LINE_FRAME_BYTES, OTU2_SLOTS, PAYLOAD_COLUMNS};
-ghost use Rattle.odtu_columns.specs.BySlots.{joined_byte};
+ghost use Rattle.otn_base.specs.declared.limits.TheConstants.{LINE_COLUMNS, LINE_FRAME_BYTES, PAYLOAD_COLUMNS, ROWS};
+ghost use Rattle.odtu_columns.specs.BySlots.{slot_byte};
 ghost use Rattle.odtu_columns.specs.Steps.BySlots.{IsOutside, RowJoined};
 
 use crate::RowGroups;
 use crate::fill::FillFrame;
-use crate::filled_row::FilledRow;
+use crate::filled_slots::FilledSlots;
 use crate::justification::put_message;
 use crate::put::put_groups;
 use frame_geometry::Frame;
@@ -22,25 +22,22 @@ use otn_base::{LineKind, Memory, Slots};
 use std::alloc::Global;
 use std::marker::Model;
 
-/// A frame of an OTU2 that is best filled by sources of one slot each: the payload of a row is kept slot by slot, and a
-/// source's bytes stand together. Of the columns that are no payload it has a message's alone; all else there is 0. It
-/// is seen as the bytes of the frame that it stands for, row by row.
+/// A frame of an OTU2 that is best filled by sources of one slot each: its payload is kept slot by slot, and a source's
+/// bytes of all four rows stand together. Of the columns that are no payload it has a message's alone; all else there
+/// is 0. It is seen as the bytes of the frame that it stands for, row by row.
 #[derive(Drop)]
 pub struct SlotFrame {
     message: [u8; 6],
-    row1: FilledRow,
-    row2: FilledRow,
-    row3: FilledRow,
-    row4: FilledRow,
+    payload: FilledSlots,
 }
 
 impl Model for SlotFrame {
-    ghost use Rattle.std.specs.Prelude.{ℕ, List, [], ◌∷◌};
+    ghost use Rattle.std.specs.Prelude.{ℕ, List};
     ghost use Rattle.odtu_columns.specs.BySlots.{frame_by_slots, message_frame};
 
     ghost Value = { List ℕ };
 
-    ghost view = { λ f. frame_by_slots (message_frame f.message) (f.row1 ∷ f.row2 ∷ f.row3 ∷ f.row4 ∷ []) };
+    ghost view = { λ f. frame_by_slots (message_frame f.message) f.payload };
 }
 
 impl SlotFrame {
@@ -49,16 +46,10 @@ impl SlotFrame {
         ensures size { IfOk result (λ frame. length frame ≡ LINE_FRAME_BYTES) }
         ensures zero { IfOk result (λ frame. (place : ℕ) → slice_index frame place ≡ 0) }
     {
-        let row1 = FilledRow::new(alloc)?;
-        let row2 = FilledRow::new(alloc)?;
-        let row3 = FilledRow::new(alloc)?;
-        let row4 = FilledRow::new(alloc)?;
+        let payload = FilledSlots::new(alloc)?;
         Ok(SlotFrame {
             message: [0; 6],
-            row1,
-            row2,
-            row3,
-            row4,
+            payload,
         })
     }
 
@@ -68,10 +59,7 @@ impl SlotFrame {
         ensures zero { (place : ℕ) → slice_index self.new place ≡ 0 }
     {
         self.message = [0; 6];
-        self.row1.clear();
-        self.row2.clear();
-        self.row3.clear();
-        self.row4.clear();
+        self.payload.clear();
     }
 
     /// Writes its bytes into a frame, whatever that holds. Answers what the payload gives to the frame's BIP-8: it is
@@ -83,10 +71,10 @@ impl SlotFrame {
     {
         clear_beside_payload(frame);
         put_message(frame, self.message);
-        let one = join_row(&mut self.row1, 1, frame);
-        let two = join_row(&mut self.row2, 2, frame);
-        let three = join_row(&mut self.row3, 3, frame);
-        let four = join_row(&mut self.row4, 4, frame);
+        let one = join_row(&mut self.payload, 1, frame);
+        let two = join_row(&mut self.payload, 2, frame);
+        let three = join_row(&mut self.payload, 3, frame);
+        let four = join_row(&mut self.payload, 4, frame);
         one ^ two ^ three ^ four
     }
 }
@@ -95,12 +83,7 @@ impl FillFrame for SlotFrame {
     ghost bytes = { λ frame. frame };
 
     fn fill_row_groups(&mut self, row: u32, slots: &Slots, groups: &[u8]) {
-        match row {
-            1 => put_in_row(&mut self.row1, slots, groups),
-            2 => put_in_row(&mut self.row2, slots, groups),
-            3 => put_in_row(&mut self.row3, slots, groups),
-            _ => put_in_row(&mut self.row4, slots, groups),
-        }
+        put_in_row(&mut self.payload, row, slots, groups);
     }
 
     fn lay_row_groups<G: RowGroups>(
@@ -110,12 +93,12 @@ impl FillFrame for SlotFrame {
         groups: &G,
         scratch: &mut [u8],
     ) {
-        match row {
-            1 => lay_in_row(&mut self.row1, slots, groups, scratch),
-            2 => lay_in_row(&mut self.row2, slots, groups, scratch),
-            3 => lay_in_row(&mut self.row3, slots, groups, scratch),
-            _ => lay_in_row(&mut self.row4, slots, groups, scratch),
-        }
+        groups.lay(scratch);
+        put_in_row(&mut self.payload, row, slots, scratch);
+    }
+
+    fn lay_slot<G: RowGroups>(&mut self, slots: &Slots, groups: &G, _scratch: &mut [u8]) {
+        self.payload.lay_slot(slots.last(), groups);
     }
 
     fn fill_message(&mut self, message: [u8; 6]) {
@@ -167,73 +150,58 @@ fn clear_run(bytes: &mut [u8], from: usize, to: usize)
 }
 
 // Writes the payload of a row, keeps every other byte, and answers what the row gives to the parity.
-fn join_row(rows: &mut FilledRow, row: u32, frame: &mut Frame<LINE_COLUMNS>) -> u8
+fn join_row(slots: &mut FilledSlots, row: u32, frame: &mut Frame<LINE_COLUMNS>) -> u8
     requires low { 1 ≤ row }
     requires high { row ≤ 4 }
-    ensures joined { RowJoined rows.old row frame.old frame.new }
+    ensures joined { RowJoined slots.old row frame.old frame.new }
     ensures parity { result ≡ row_parity_of LINE_COLUMNS row frame.new }
-    ensures kept { rows.new ≡ rows.old }
+    ensures kept { slots.new ≡ slots.old }
 {
-    rows.join(frame.payload_row_mut(row));
+    slots.join_row(row, frame.payload_row_mut(row));
     parity(frame.payload_row(row))
 }
 
 // Puts all groups of a row for these slots: bytes of one slot of an OTU2 stand together.
-fn put_in_row(rows: &mut FilledRow, slots: &Slots, bytes: &[u8])
+fn put_in_row(payload: &mut FilledSlots, row: u32, slots: &Slots, bytes: &[u8])
+    requires low { 1 ≤ row }
+    requires high { row ≤ 4 }
     requires size { length bytes.now ≡ length slots.now.list * (PAYLOAD_COLUMNS / slots_of slots.now.kind) }
     ensures list { IsSlotList (slots_of slots.now.kind) slots.now.list }
     ensures put { (cycle i : ℕ) → cycle < PAYLOAD_COLUMNS / slots_of slots.now.kind → i < length slots.now.list
-        → joined_byte rows.new (slots_of slots.now.kind * cycle + (slice_index slots.now.list i - 1))
+        → slot_byte payload.new (row - 1) (slots_of slots.now.kind * cycle + (slice_index slots.now.list i - 1))
         ≡ slice_index bytes.now (length slots.now.list * cycle + i) }
     ensures kept { (x : ℕ) → x < PAYLOAD_COLUMNS
         → ((i : ℕ) → i < length slots.now.list → x % slots_of slots.now.kind + 1 ≢ slice_index slots.now.list i)
-        → joined_byte rows.new x ≡ joined_byte rows.old x }
+        → slot_byte payload.new (row - 1) x ≡ slot_byte payload.old (row - 1) x }
+    ensures others { (other x : ℕ) → other < ROWS → other ≢ row - 1 → x < PAYLOAD_COLUMNS
+        → slot_byte payload.new other x ≡ slot_byte payload.old other x }
 {
     let kind = slots.kind();
     let list = slots.as_slice();
     if slots.is_otu2_slot() {
-        rows.put_slot(list[0], bytes);
+        payload.put_row(list[0], row, bytes);
         return;
     }
-    put_joined(kind, rows, list, bytes);
-}
-
-// Puts all groups of a row for these slots out of what lays them out: for one slot of an OTU2, at its place.
-fn lay_in_row<G: RowGroups>(rows: &mut FilledRow, slots: &Slots, groups: &G, scratch: &mut [u8])
-    requires size { length (G.groups groups.now)
-        ≡ length slots.now.list * (PAYLOAD_COLUMNS / slots_of slots.now.kind) }
-    requires scratch { length scratch.old ≡ length (G.groups groups.now) }
-    ensures list { IsSlotList (slots_of slots.now.kind) slots.now.list }
-    ensures put { (cycle i : ℕ) → cycle < PAYLOAD_COLUMNS / slots_of slots.now.kind → i < length slots.now.list
-        → joined_byte rows.new (slots_of slots.now.kind * cycle + (slice_index slots.now.list i - 1))
-        ≡ slice_index (G.groups groups.now) (length slots.now.list * cycle + i) }
-    ensures kept { (x : ℕ) → x < PAYLOAD_COLUMNS
-        → ((i : ℕ) → i < length slots.now.list → x % slots_of slots.now.kind + 1 ≢ slice_index slots.now.list i)
-        → joined_byte rows.new x ≡ joined_byte rows.old x }
-{
-    let kind = slots.kind();
-    let list = slots.as_slice();
-    if slots.is_otu2_slot() {
-        rows.lay_slot(list[0], groups);
-        return;
-    }
-    groups.lay(scratch);
-    put_joined(kind, rows, list, scratch);
+    put_joined(kind, payload, row, list, bytes);
 }
 
 // Puts the groups of any slots into the payload of the row itself.
-fn put_joined(kind: LineKind, rows: &mut FilledRow, slots: &[u8], bytes: &[u8])
-    requires list { IsSlotList (slots_of kind) slots.now }
-    requires size { length bytes.now ≡ length slots.now * (PAYLOAD_COLUMNS / slots_of kind) }
-    ensures put { (cycle i : ℕ) → cycle < PAYLOAD_COLUMNS / slots_of kind → i < length slots.now
-        → joined_byte rows.new (slots_of kind * cycle + (slice_index slots.now i - 1))
-        ≡ slice_index bytes.now (length slots.now * cycle + i) }
+fn put_joined(kind: LineKind, slots: &mut FilledSlots, row: u32, list: &[u8], bytes: &[u8])
+    requires low { 1 ≤ row }
+    requires high { row ≤ 4 }
+    requires list { IsSlotList (slots_of kind) list.now }
+    requires size { length bytes.now ≡ length list.now * (PAYLOAD_COLUMNS / slots_of kind) }
+    ensures put { (cycle i : ℕ) → cycle < PAYLOAD_COLUMNS / slots_of kind → i < length list.now
+        → slot_byte slots.new (row - 1) (slots_of kind * cycle + (slice_index list.now i - 1))
+        ≡ slice_index bytes.now (length list.now * cycle + i) }
     ensures kept { (x : ℕ) → x < PAYLOAD_COLUMNS
-        → ((i : ℕ) → i < length slots.now → x % slots_of kind + 1 ≢ slice_index slots.now i)
-        → joined_byte rows.new x ≡ joined_byte rows.old x }
+        → ((i : ℕ) → i < length list.now → x % slots_of kind + 1 ≢ slice_index list.now i)
+        → slot_byte slots.new (row - 1) x ≡ slot_byte slots.old (row - 1) x }
+    ensures others { (other x : ℕ) → other < ROWS → other ≢ row - 1 → x < PAYLOAD_COLUMNS
+        → slot_byte slots.new other x ≡ slot_byte slots.old other x }
 {
     let mut payload = [0u8; PAYLOAD_COLUMNS];
-    rows.join(&mut payload);
-    put_groups(kind, slots, bytes, &mut payload);
-    rows.split(&payload);
+    slots.join_row(row, &mut payload);
+    put_groups(kind, list, bytes, &mut payload);
+    slots.split_row(row, &payload);
 }

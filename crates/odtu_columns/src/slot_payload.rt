@@ -11,10 +11,10 @@ use otn_base::limits::{LINE_COLUMNS, OTU2_SLOTS, PAYLOAD_COLUMNS, ROWS};
 use std::alloc::{AllocError, Global};
 use std::marker::Model;
 
-// Bytes of a slot in a row, and in a frame.
-const SLOT_ROW: usize = PAYLOAD_COLUMNS / OTU2_SLOTS;
+/// Bytes of a slot in a row, and in a frame.
+pub(crate) const SLOT_ROW: usize = PAYLOAD_COLUMNS / OTU2_SLOTS;
 
-const SLOT_FRAME: usize = ROWS * SLOT_ROW;
+pub(crate) const SLOT_FRAME: usize = ROWS * SLOT_ROW;
 
 /// The payload of a frame of an OTU2, slot by slot: of each the 1,904 bytes that it has in a frame, row by row. It is
 /// seen as the bytes of slot 1, then those of slot 2, and so on.
@@ -64,8 +64,8 @@ impl SlotPayload {
     }
 }
 
-// So many bytes that are all 0.
-fn room(alloc: Global, n: usize) -> Result<Vec<u8>, AllocError>
+/// So many bytes.
+pub(crate) fn room(alloc: Global, n: usize) -> Result<Vec<u8>, AllocError>
     ensures { IfOk result (λ bytes. vec_len bytes ≡ n) }
 {
     vec![in alloc; 0u8; n]

@@ -5,7 +5,8 @@ use Rattle.std.proofs.lemmas.List.{ext_get_or, get_or-drop, get_or-take}
 use Rattle.std.proofs.lemmas.List.FromFn.{length-map-range_with_len, get_or-map-range_with_len}
 use Rattle.std.proofs.Math.Nat.{div-add-mod, div-eq_of_lt, div-lt_iff_lt-mul, mod-eq_of_lt, mul-add-div, mul-add-mod_self_left, mul_comm, mul-le-mul_left}
 use Rattle.gmp_rule.specs.DataRule.{IsData, is_data_at, data_count}
-use Rattle.trib_source.specs.Steps.Rows.{data_bytes, byte_laid, groups_laid}
+use Rattle.odtu_columns.specs.Put.{slot_place, SlotWasPut}
+use Rattle.trib_source.specs.Steps.Rows.{data_bytes, byte_laid, groups_laid, RowsWerePut}
 use Rattle.trib_source.proofs.Laid.{bytes_grow}
 use Rattle.trib_source.proofs.RowsPut.{bytes_inside, group_byte, taken_is}
 
@@ -105,3 +106,20 @@ row_slice m c a w cycles row more at long same low high at_was count long_is =
       within = omega (arith, ends, inside, all);
       taken = taken_is m c (a + w * (row - 1)) w more count;
     }
+
+-- ---- one slot of an OTU2
+
+-- what was put of a slot are its groups in all rows
+pub slot_put : (slots laid fresh before now : List ℕ) (c a : ℕ) → length slots ≡ 1 → laid ≡ groups_laid 1 c a fresh 1904 → SlotWasPut slots laid before now → RowsWerePut 8 slots (byte_laid 1 c a fresh) 4 before now
+slot_put slots laid fresh before now c a one is h = record {
+  put = λ row cycle i low high l inside.
+      let first : i ≡ 0 = omega (arith, inside, one) in
+      let x = 476 * (row - 1) + cycle in
+      ap (λ k. get_or now (slot_place 8 slots row cycle k) 0) first
+      ∙ h.put row cycle low high l
+      ∙ ap (λ xs. get_or xs x 0) is
+      ∙ ap (λ n. get_or (groups_laid 1 c a fresh 1904) n 0) (let e : x ≡ 1 * x + 0 = omega arith in e)
+      ∙ byte_of_group 1 c a 1904 x 0 fresh (omega arith) (omega arith)
+      ∙ ap (λ k. byte_laid 1 c a fresh x k) (sym first);
+  kept = λ place none. h.kept place (λ row cycle low high l e. none row cycle 0 low high l (omega (arith, one)) e);
+}

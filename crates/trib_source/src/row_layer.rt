@@ -1,4 +1,4 @@
-// The groups of a row, which are laid out of the bytes of its data groups.
+// The groups of a row, or of one slot in a frame, which are laid out of the bytes of the data groups among them.
 ghost use Rattle.std.specs.Prelude.{◌≡◌, ◌+◌, ◌≤◌, length};
 ghost use Rattle.otn_base.specs.declared.limits.TheConstants.{GROUPS};
 ghost use Rattle.trib_source.specs.Steps.Rows.{data_bytes, groups_laid};

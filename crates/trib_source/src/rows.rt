@@ -1,6 +1,6 @@
 // The rows of a frame.
 ghost use Rattle.std.specs.Prelude.{◌≡◌, ℕ, ◌+◌, ◌-◌, ◌*◌, ◌<◌, ◌≤◌, List, length, drop, slice_index};
-ghost use Rattle.otn_base.specs.declared.limits.TheConstants.{GROUPS, ROWS};
+ghost use Rattle.otn_base.specs.declared.limits.TheConstants.{GROUPS, OTU2_SLOTS, ROWS};
 ghost use Rattle.otn_base.specs.LineSlots.{slots_of};
 ghost use Rattle.gmp_rule.specs.DataRule.{data_count};
 ghost use Rattle.trib_source.specs.Rows.{groups_in_row};
@@ -53,7 +53,6 @@ pub(crate) fn put_rows<F: FillFrame>(
     let row = cycles_in_row(slots.kind());
     let cycles = ALL * row;
     let (fresh, scratch) = scratch.split_at_mut(m * cycles as usize);
-    let (scratch, _) = scratch.split_at_mut(m * row as usize);
     put_front(backlog, cm, asked, cycles, m, slots, fresh, scratch, frame);
     *runner = Runner::at(cm, asked + cycles);
 }
@@ -77,7 +76,7 @@ fn put_front<F: FillFrame>(
     requires most { cm ≤ GROUPS }
     requires high { asked + cycles ≤ GROUPS }
     requires fresh { length fresh.old ≡ m * cycles }
-    requires scratch { length scratch.old ≡ m * groups_in_row (slots_of slots.now.kind) }
+    requires scratch { length scratch.old ≡ m * cycles }
     requires enough { AreEnough m cm asked backlog.old }
     ensures rows { RowsWerePut (slots_of slots.now.kind) slots.now.list
         (byte_laid m cm asked backlog.old.items) ROWS (F.bytes frame.old) (F.bytes frame.new) }
@@ -98,7 +97,56 @@ fn put_front<F: FillFrame>(
 }
 
 // Fills the rows of a frame with its groups, behind `asked`, of `m` bytes each: into the data groups go these bytes.
+// Those of one slot of an OTU2 are laid out at once.
 fn fill_rows<F: FillFrame>(
+    cm: u32,
+    asked: u32,
+    fresh: &[u8],
+    m: usize,
+    slots: &Slots,
+    scratch: &mut [u8],
+    frame: &mut F,
+)
+    requires m { m ≡ length slots.now.list }
+    requires most { cm ≤ GROUPS }
+    requires high { asked + ROWS * groups_in_row (slots_of slots.now.kind) ≤ GROUPS }
+    requires fresh { length fresh.now ≡ data_bytes m cm asked (ROWS * groups_in_row (slots_of slots.now.kind)) }
+    requires scratch { length scratch.old ≡ m * (ROWS * groups_in_row (slots_of slots.now.kind)) }
+    ensures { RowsWerePut (slots_of slots.now.kind) slots.now.list (byte_laid m cm asked fresh.now) ROWS
+        (F.bytes frame.old) (F.bytes frame.new) }
+{
+    if slots.is_otu2_slot() {
+        fill_slot(cm, asked, fresh, slots, scratch, frame);
+        return;
+    }
+    let (scratch, _) = scratch.split_at_mut(m * cycles_in_row(slots.kind()) as usize);
+    fill_each_row(cm, asked, fresh, m, slots, scratch, frame);
+}
+
+// The same of one slot of an OTU2.
+fn fill_slot<F: FillFrame>(
+    cm: u32,
+    asked: u32,
+    fresh: &[u8],
+    slots: &Slots,
+    scratch: &mut [u8],
+    frame: &mut F,
+)
+    requires line { slots_of slots.now.kind ≡ OTU2_SLOTS }
+    requires one { length slots.now.list ≡ 1 }
+    requires most { cm ≤ GROUPS }
+    requires high { asked + ROWS * groups_in_row OTU2_SLOTS ≤ GROUPS }
+    requires fresh { length fresh.now ≡ data_bytes 1 cm asked (ROWS * groups_in_row OTU2_SLOTS) }
+    requires scratch { length scratch.old ≡ ROWS * groups_in_row OTU2_SLOTS }
+    ensures { RowsWerePut OTU2_SLOTS slots.now.list (byte_laid 1 cm asked fresh.now) ROWS
+        (F.bytes frame.old) (F.bytes frame.new) }
+{
+    let groups = RowLayer::new(cm, asked, fresh, 1, ROWS * (PAYLOAD_COLUMNS / OTU2_SLOTS));
+    frame.lay_slot(slots, &groups, scratch);
+}
+
+// The same, row by row.
+fn fill_each_row<F: FillFrame>(
     cm: u32,
     asked: u32,
     fresh: &[u8],

@@ -3,6 +3,5 @@ use Rattle.lane_kernels.proofs.from_slots.join_eight.Goals as goal
 
 pub returns : goal.returns
 returns c = λ k j lk lj.
-    ap (λ n. get_or c.together.new.into n 0) (let e : 8 * j + k ≡ 0 + 8 * j + k = omega arith in e)
-    ∙ c.together.ensures.here k j lk lj
-    ∙ ap (λ n. get_or c.args.lists.now n 0) (let e : 0 + 476 * k + j ≡ 476 * k + j = omega arith in e)
+    c.join8_among.ensures.joined k j lk lj
+    ∙ ap (λ n. get_or c.args.lists.now n 0) (let e : 476 * k + 0 + j ≡ 476 * k + j = omega arith in e)

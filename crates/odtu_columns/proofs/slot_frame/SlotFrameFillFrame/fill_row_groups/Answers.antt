@@ -1,4 +1,4 @@
-use Rattle.std.proofs.Common.{◌≡◌, [], ◌∷◌, refl, sym, subst, arith}
+use Rattle.std.proofs.Common.{subst}
 use Rattle.otn_base.specs.LineSlots.{slots_of}
 use Rattle.odtu_columns.specs.BySlots.{frame_by_slots, message_frame}
 use Rattle.odtu_columns.specs.Put.{RowWasPut}
@@ -8,73 +8,15 @@ use Rattle.odtu_columns.proofs.MessageFrames.{length-message_frame}
 use Rattle.odtu_columns.proofs.PutBack.{row_back}
 use Rattle.odtu_columns.proofs.slot_frame.SlotFrameFillFrame.fill_row_groups.Goals as goal
 
-pub returns-in-1-clause-put : goal.returns-in-1-clause-put
-returns-in-1-clause-put c =
+pub returns-clause-put : goal.returns-clause-put
+returns-clause-put c =
     let i = c.self.inside in
     let kind = c.args.slots.now.kind in
     let list = c.args.slots.now.list in
-    let bytes = c.args.groups.now in
-    let new = c.put_in_row.new.rows in
-    let rows = i.row1 ∷ i.row2 ∷ i.row3 ∷ i.row4 ∷ [] in
+    let new = c.put_in_row.new.payload in
     let put = c.put_in_row.ensures in
-    let after = frame_by_slots (message_frame i.message) (new ∷ i.row2 ∷ i.row3 ∷ i.row4 ∷ []) in
-    subst (λ r. RowWasPut (slots_of kind) list r bytes c.args.self.now after) (sym c.in-1.is)
-    (subst (λ before. RowWasPut (slots_of kind) list 1 bytes before after) c.self.view_is
-    (row_filled (slots_of kind) list bytes (message_frame i.message) new rows 1 (number_of kind) (omega arith) (omega arith) put.list (length-message_frame i.message) refl put.put put.kept))
+    subst (λ before. RowWasPut (slots_of kind) list c.args.row c.args.groups.now before (frame_by_slots (message_frame i.message) new)) c.self.view_is
+    (row_filled (slots_of kind) list c.args.groups.now (message_frame i.message) i.payload new c.args.row (number_of kind) c.requires.row_low c.requires.row_high put.list (length-message_frame i.message) put.put put.kept put.others)
 
-pub returns-in-1-clause-groups : goal.returns-in-1-clause-groups
-returns-in-1-clause-groups c = row_back (slots_of c.args.slots.now.kind) c.args.slots.now.list c.args.groups.now c.args.self.now _ c.args.row (returns-in-1-clause-put c) c.requires.size
-
-pub returns-in-2-clause-put : goal.returns-in-2-clause-put
-returns-in-2-clause-put c =
-    let i = c.self.inside in
-    let kind = c.args.slots.now.kind in
-    let list = c.args.slots.now.list in
-    let bytes = c.args.groups.now in
-    let new = c.put_in_row-in-2.new.rows in
-    let rows = i.row1 ∷ i.row2 ∷ i.row3 ∷ i.row4 ∷ [] in
-    let put = c.put_in_row-in-2.ensures in
-    let after = frame_by_slots (message_frame i.message) (i.row1 ∷ new ∷ i.row3 ∷ i.row4 ∷ []) in
-    subst (λ r. RowWasPut (slots_of kind) list r bytes c.args.self.now after) (sym c.in-2.is)
-    (subst (λ before. RowWasPut (slots_of kind) list 2 bytes before after) c.self.view_is
-    (row_filled (slots_of kind) list bytes (message_frame i.message) new rows 2 (number_of kind) (omega arith) (omega arith) put.list (length-message_frame i.message) refl put.put put.kept))
-
-pub returns-in-2-clause-groups : goal.returns-in-2-clause-groups
-returns-in-2-clause-groups c = row_back (slots_of c.args.slots.now.kind) c.args.slots.now.list c.args.groups.now c.args.self.now _ c.args.row (returns-in-2-clause-put c) c.requires.size
-
-pub returns-in-3-clause-put : goal.returns-in-3-clause-put
-returns-in-3-clause-put c =
-    let i = c.self.inside in
-    let kind = c.args.slots.now.kind in
-    let list = c.args.slots.now.list in
-    let bytes = c.args.groups.now in
-    let new = c.put_in_row-in-3.new.rows in
-    let rows = i.row1 ∷ i.row2 ∷ i.row3 ∷ i.row4 ∷ [] in
-    let put = c.put_in_row-in-3.ensures in
-    let after = frame_by_slots (message_frame i.message) (i.row1 ∷ i.row2 ∷ new ∷ i.row4 ∷ []) in
-    subst (λ r. RowWasPut (slots_of kind) list r bytes c.args.self.now after) (sym c.in-3.is)
-    (subst (λ before. RowWasPut (slots_of kind) list 3 bytes before after) c.self.view_is
-    (row_filled (slots_of kind) list bytes (message_frame i.message) new rows 3 (number_of kind) (omega arith) (omega arith) put.list (length-message_frame i.message) refl put.put put.kept))
-
-pub returns-in-3-clause-groups : goal.returns-in-3-clause-groups
-returns-in-3-clause-groups c = row_back (slots_of c.args.slots.now.kind) c.args.slots.now.list c.args.groups.now c.args.self.now _ c.args.row (returns-in-3-clause-put c) c.requires.size
-
-pub returns-in_default-clause-put : goal.returns-in_default-clause-put
-returns-in_default-clause-put c =
-    let i = c.self.inside in
-    let kind = c.args.slots.now.kind in
-    let list = c.args.slots.now.list in
-    let bytes = c.args.groups.now in
-    let new = c.put_in_row-in_default.new.rows in
-    let rows = i.row1 ∷ i.row2 ∷ i.row3 ∷ i.row4 ∷ [] in
-    let put = c.put_in_row-in_default.ensures in
-    let after = frame_by_slots (message_frame i.message) (i.row1 ∷ i.row2 ∷ i.row3 ∷ new ∷ []) in
-    let low = c.requires.row_low in
-    let high = c.requires.row_high in
-    let four : c.args.row ≡ 4 = omega arith in
-    subst (λ r. RowWasPut (slots_of kind) list r bytes c.args.self.now after) (sym four)
-    (subst (λ before. RowWasPut (slots_of kind) list 4 bytes before after) c.self.view_is
-    (row_filled (slots_of kind) list bytes (message_frame i.message) new rows 4 (number_of kind) (omega arith) (omega arith) put.list (length-message_frame i.message) refl put.put put.kept))
-
-pub returns-in_default-clause-groups : goal.returns-in_default-clause-groups
-returns-in_default-clause-groups c = row_back (slots_of c.args.slots.now.kind) c.args.slots.now.list c.args.groups.now c.args.self.now _ c.args.row (returns-in_default-clause-put c) c.requires.size
+pub returns-clause-groups : goal.returns-clause-groups
+returns-clause-groups c = row_back (slots_of c.args.slots.now.kind) c.args.slots.now.list c.args.groups.now c.args.self.now _ c.args.row (returns-clause-put c) c.requires.size

@@ -1,7 +1,7 @@
 use Rattle.otn_base.specs.LineSlots.{slots_of}
 use Rattle.trib_source.specs.Steps.Rows.{byte_laid}
 use Rattle.trib_source.proofs.RowsPut.{no_rows}
-use Rattle.trib_source.proofs.rows.fill_rows.Goals as goal
+use Rattle.trib_source.proofs.rows.fill_each_row.Goals as goal
 
 pub returns : goal.returns
 returns g c =
