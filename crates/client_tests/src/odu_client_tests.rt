@@ -139,3 +139,67 @@ fn frames_of_a_payload(rt: HostRuntime) -> Result<(), Fail> {
     }
     Ok(())
 }
+
+// Four frames of a text, whose packets have no FCS.
+fn four_frames(alloc: Global, text: &[u8]) -> Result<Vec<u8>, AllocError> {
+    let mut place = InPlaceOf::Live(MemSource::new(Vec::from_slice(alloc, text)?), 0);
+    let mut lines = PacketLines::new(alloc).map_err(|_memory| AllocError)?;
+    let mut framer = ClientFramer::new(alloc).map_err(|_memory| AllocError)?;
+    match Trace::new(b"EAST") {
+        Some(trace) => framer.restart(&trace, false),
+        None => {}
+    }
+    let mut frames = zeros(alloc, 61_184)?;
+    framer.fill(&mut lines, &mut place, &mut frames);
+    Ok(frames)
+}
+
+// How many payload bytes of these frames, from byte `begin` of the payload on, are not those of idle frames.
+fn strays(frames: &[u8], begin: usize) -> usize {
+    let idle = [0xB6_u8, 0xAB, 0x31, 0xE0];
+    let mut strays = 0_usize;
+    let mut count = 0_usize;
+    for (at, byte) in frames.iter().enumerate() {
+        if at % 3_824 >= 16 {
+            if count >= begin && *byte != idle[(count - begin) % 4] {
+                strays = strays.saturating_add(1);
+            }
+            count = count.saturating_add(1);
+        }
+    }
+    strays
+}
+
+// The BIP-8 of frame `n`, from 0: of columns 15 to 3824.
+fn parity_of(frames: &[u8], n: usize) -> u8 {
+    let mut parity = 0;
+    for (at, byte) in frames.iter().enumerate() {
+        if at / 15_296 == n && at % 3_824 >= 14 {
+            parity ^= *byte;
+        }
+    }
+    parity
+}
+
+// The PM BIP-8 of frames 2 and 3, from 0, of four: row 3, column 11.
+fn parities_sent(frames: &[u8]) -> Option<(u8, u8)> {
+    Some((*frames.get(38_250)?, *frames.get(53_546)?))
+}
+
+// Behind the packet idle frames alone are sent, from each place in a group of four bytes on; and the parity of frames
+// that have the same payload is right all the same.
+#[test]
+fn idle_frames_go_on_from_frame_to_frame(rt: HostRuntime) -> Result<(), Fail> {
+    let alloc = rt.alloc();
+    let one = four_frames(alloc, b"11\n")?;
+    let two = four_frames(alloc, b"1111\n")?;
+    let three = four_frames(alloc, b"111111\n")?;
+    let four = four_frames(alloc, b"11111111\n")?;
+    assert_eq!(rt; (strays(&one, 13), strays(&two, 14)), (0, 0));
+    assert_eq!(rt; (strays(&three, 15), strays(&four, 16)), (0, 0));
+    for frames in [&one, &two, &three, &four] {
+        let sent = parities_sent(frames);
+        assert_eq!(rt; sent, Some((parity_of(frames, 0), parity_of(frames, 1))));
+    }
+    Ok(())
+}

@@ -77,6 +77,13 @@ impl GfpMaker {
         self.emitted >= self.frame.len()
     }
 
+    /// What is left of the frame in hand.
+    pub fn hand(&self) -> &[u8]
+        ensures { result.now ≡ self.now.hand }
+    {
+        &self.frame[self.emitted..]
+    }
+
     /// Takes the frame of a packet of 1 to 65,527 bytes in hand, with or without FCS.
     pub fn offer(&mut self, packet: &[u8], fcs: bool)
         requires idle { self.old.hand ≡ [] }

@@ -1,5 +1,5 @@
 -- The bytes of a client's frame, row by row.
-use Rattle.std.proofs.Common.{◌≡◌, ◌≢◌, ◌<◌, ◌≤◌, ◌+◌, ◌-◌, ◌*◌, ◌/◌, ◌%◌, ◌⊎◌, inl, inr, ℕ, Bool, true, false, ◌==◌, nat_le, ◌&&◌, if◌then◌else◌, List, [], ◌∷◌, length, slice_index, get_or, arith, refl, sym, ap, subst, ◌∙◌}
+use Rattle.std.proofs.Common.{◌≡◌, ◌≢◌, ◌<◌, ◌≤◌, ◌+◌, ◌-◌, ◌*◌, ◌/◌, ◌%◌, ◌⊎◌, inl, inr, ℕ, Bool, true, false, ◌==◌, nat_le, ◌&&◌, if◌then◌else◌, List, [], ◌∷◌, ◌++◌, length, slice_index, get_or, arith, refl, sym, ap, subst, ◌∙◌}
 use Rattle.std.specs.Prelude.{map}
 use Rattle.std.specs.List.{range_with_len}
 use Rattle.std.proofs.lemmas.List.{get_or-take, ext_get_or}
@@ -7,7 +7,8 @@ use Rattle.std.proofs.lemmas.List.FromFn.{get_or-map-range_with_len, length-map-
 use Rattle.std.proofs.lemmas.Bool.Decides.{nat_tests}
 use Rattle.std.proofs.lemmas.Bool.{cases_lt}
 use Rattle.otn_base.specs.TrailTrace.{trail_trace}
-use Rattle.frame_geometry.specs.Places.{place_of}
+use Rattle.frame_geometry.specs.Places.{place_of, payload_row_of}
+use Rattle.frame_geometry.specs.PayloadParity.{same_payload_row}
 use Rattle.frame_overhead.specs.Runs.{IsPlace, byte_of, IsPut}
 use Rattle.odu_path.specs.Path.{path_row, path_byte, HasPath}
 use Rattle.odu_client.specs.ClientFrames.{alignment_row, client_psi, opu_byte, odu_byte, client_byte, client_frame}
@@ -215,3 +216,32 @@ is_client_frame sapi mfas bip payload put frame h path = by_places (client_byte 
 pub client_frame-size : (sapi : List ℕ) (mfas bip : ℕ) (payload : List ℕ) → length (client_frame sapi mfas bip payload) ≡ 15296
 unfolding client_frame
 client_frame-size sapi mfas bip payload = length-map-range_with_len (λ place. client_byte sapi mfas bip payload (place / 3824 + 1) (place % 3824 + 1)) 0 15296
+
+-- ---- the payload stays
+
+-- as what stands beside it is put
+pub payload_put : (mfas : ℕ) (old put : List ℕ) → length old ≡ 15296 → FrameWasPut mfas (payload_of old) put
+    → (row x : ℕ) → 1 ≤ row → row ≤ 4 → x < 3808 → slice_index put (place_of 3824 row (17 + x)) ≡ slice_index old (place_of 3824 row (17 + x))
+payload_put mfas old put size h row x low high small =
+    let place : IsPlace 3824 row (17 + x) = record { row_low = low; row_high = high; col_low = omega arith; col_high = omega arith } in
+    h.payload_at row (17 + x) place (omega arith) ∙ sym ((payload_is old size).at row (17 + x) place (omega arith))
+
+-- and then the path
+pub payload_kept : (mfas tti bip : ℕ) (old put new : List ℕ) → length old ≡ 15296 → FrameWasPut mfas (payload_of old) put → HasPath 3824 tti bip put new
+    → (row x : ℕ) → 1 ≤ row → row ≤ 4 → x < 3808 → slice_index new (place_of 3824 row (17 + x)) ≡ slice_index old (place_of 3824 row (17 + x))
+payload_kept mfas tti bip old put new size h path row x low high small =
+    let place : IsPlace 3824 row (17 + x) = record { row_low = low; row_high = high; col_low = omega arith; col_high = omega arith } in
+    path.byte row (17 + x) place ∙ path_back tti bip row (17 + x) (byte_of 3824 row (17 + x) put) (omega arith)
+    ∙ payload_put mfas old put size h row x low high small
+
+pub payload_same : (old new : List ℕ) → length old ≡ 15296 → length new ≡ 15296
+    → ((row x : ℕ) → 1 ≤ row → row ≤ 4 → x < 3808 → slice_index new (place_of 3824 row (17 + x)) ≡ slice_index old (place_of 3824 row (17 + x)))
+    → payload_of new ≡ payload_of old
+payload_same old new sized size same =
+    let now = λ (r : ℕ). payload_row_of 3824 r new in
+    let was = λ (r : ℕ). payload_row_of 3824 r old in
+    let row : (r : ℕ) → 1 ≤ r → r ≤ 4 → now r ≡ was r = λ r low high. same_payload_row 3824 r old new (omega arith) sized size low high (λ x h. same r x low high h) in
+    ap (λ a. a ++ now 2 ++ now 3 ++ now 4) (row 1 (omega arith) (omega arith))
+    ∙ ap (λ a. was 1 ++ a ++ now 3 ++ now 4) (row 2 (omega arith) (omega arith))
+    ∙ ap (λ a. was 1 ++ was 2 ++ a ++ now 4) (row 3 (omega arith) (omega arith))
+    ∙ ap (λ a. was 1 ++ was 2 ++ was 3 ++ a) (row 4 (omega arith) (omega arith))

@@ -1,21 +1,24 @@
 -- The steps of a stream of GFP frames.
 use Rattle.std.proofs.Common.{◌≡◌, ◌≢◌, ◌≤◌, ◌+◌, ℕ, zero, suc, Bool, if◌then◌else◌, List, [], ◌∷◌, ◌++◌, length, take, arith, refl, sym, ap, subst, ◌∙◌, append_assoc, append-nil, length-append}
-use Rattle.std.specs.Prelude.{replicate}
+use Rattle.std.specs.Prelude.{replicate, Option}
 use Rattle.std.proofs.Math.Seq.{take-append_seam, take-length}
 use Rattle.otn_ports.specs.Views.{InView}
+use Rattle.frame_geometry.specs.PayloadParity.{payload_parity_of}
 use Rattle.gfp_frames.specs.Area.{client_area}
 use Rattle.gfp_frames.specs.GfpText.{Frame, Idle, Client, text_of, stream_frames}
-use Rattle.gfp_frames.specs.Maker.{MakerState, HasMade, made_frame, fresh}
+use Rattle.gfp_frames.specs.Maker.{MakerState, HasMade, made_frame, fresh, idle_bytes}
 use Rattle.gfp_frames.specs.CoreHeader.{core_header}
 use Rattle.gfp_scrambler.specs.Register.{scrambled}
+use Rattle.gfp_frames.proofs.Idles.{idles_given}
 use Rattle.gfp_frames.proofs.Texts.{frame_made, fresh_made, header_size}
 use Rattle.packet_text.specs.LinesStand.{LinesView, LinesStand, TakeStands, is_packet, given_by}
 use Rattle.otn_base.specs.Counts.{saturated}
 use Rattle.packet_text.specs.declared.line.Line.{Line}
 use Rattle.packet_text.specs.declared.line.Line.TheVariants as line
 use Rattle.odu_client.specs.ClientInput.{gfp_length}
+use Rattle.odu_client.specs.AlignedRuns.{payload_of}
 use Rattle.odu_client.specs.Framing.{StreamState, StreamMade, TextStands}
-use Rattle.odu_client.specs.Steps.Framing.{StreamReady, TextGoes, GetsReady, StreamsBy}
+use Rattle.odu_client.specs.Steps.Framing.{StreamReady, TextGoes, GetsReady, StreamsBy, IdlesBy, Repeats, IsKnown}
 use Rattle.odu_client.specs.PacketStream.{fresh_stream}
 use Rattle.odu_client.proofs.GfpTexts.{clients, clients-append, first_frames, no_idles}
 
@@ -253,3 +256,73 @@ streams_both was mid now x y a b c s t u one two = λ first read emitted packets
 -- the same bytes, by another name
 pub streams_same : (was now : InView) (x y : List ℕ) (a b : LinesView) (s t : StreamState) → x ≡ y → StreamsBy was now x a b s t → StreamsBy was now y a b s t
 streams_same was now x y a b s t e one = let P : List ℕ → Type 0 = λ z. StreamsBy was now z a b s t in subst P e one
+
+-- ---- where no packet is left
+
+idles_join : (n m : ℕ) → idle_bytes n ++ idle_bytes m ≡ idle_bytes (n + m)
+idles_join zero m = ap idle_bytes (let e : m ≡ 0 + m = omega arith in e)
+idles_join (suc n) m =
+    append_assoc (core_header 0) (idle_bytes n) (idle_bytes m) ∙ ap (λ y. core_header 0 ++ y) (idles_join n m) ∙ ap idle_bytes (let e : suc (n + m) ≡ suc n + m = omega arith in e)
+
+-- nothing was emitted yet
+pub idles_none : (s : StreamState) → IdlesBy [] s s
+idles_none s = record { so = λ other. (0, sym (append-nil s.maker.hand)) }
+
+-- what was asked for before changed nothing
+pub idles_after : (bytes : List ℕ) (s mid t : StreamState) → (s.answer ≢ line.Packet → mid ≡ s) → IdlesBy bytes mid t → IdlesBy bytes s t
+idles_after bytes s mid t same one = record {
+  so = λ other.
+      let e = same other in
+      let b = one.so (λ q. other (ap (λ x. x.answer) (sym e) ∙ q)) in
+      (b.0, b.1 ∙ ap (λ x. x.maker.hand ++ idle_bytes b.0) e);
+}
+
+-- two calls, one after another
+pub idles_both : (x y : List ℕ) (s t u : StreamState) → (s.answer ≢ line.Packet → t.answer ≡ s.answer) → IdlesBy x s t → IdlesBy y t u → IdlesBy (x ++ y) s u
+idles_both x y s t u same one two = record {
+  so = λ other.
+      let a = one.so other in
+      let b = two.so (λ e. other (sym (same other) ∙ e)) in (
+        a.0 + b.0,
+        append_assoc x y u.maker.hand ∙ ap (λ z. x ++ z) b.1 ∙ sym (append_assoc x t.maker.hand (idle_bytes b.0))
+            ∙ ap (λ z. z ++ idle_bytes b.0) a.1 ∙ append_assoc s.maker.hand (idle_bytes a.0) (idle_bytes b.0)
+            ∙ ap (λ z. s.maker.hand ++ z) (idles_join a.0 b.0),
+      );
+}
+
+-- the same bytes, by another name
+pub idles_same : (x y : List ℕ) (s t : StreamState) → x ≡ y → IdlesBy x s t → IdlesBy y s t
+idles_same x y s t e one = let P : List ℕ → Type 0 = λ z. IdlesBy z s t in subst P e one
+
+-- all of a slice was emitted
+pub idles_all : (bytes : List ℕ) (s t : StreamState) → IdlesBy bytes s t → IdlesBy (take (length bytes) bytes) s t
+idles_all bytes s t one = idles_same bytes (take (length bytes) bytes) s t (sym (take-length bytes)) one
+
+-- as much of an idle frame is in hand as before
+pub repeats_from : (payload : List ℕ) (s t : StreamState) → s.answer ≢ line.Packet → t.answer ≡ s.answer → length payload ≡ 15232 → IdlesBy payload s t → t.maker.hand ≡ s.maker.hand → Repeats payload t
+repeats_from payload s t other same size idles hand = record {
+  over = λ e. other (sym same ∙ e);
+  size = size;
+  idles = (idles.so other).0;
+  bytes = (idles.so other).1 ∙ ap (λ h. h ++ idle_bytes (idles.so other).0) (sym hand);
+}
+
+-- the same payload was emitted once more
+pub streams_again : (place : InView) (payload : List ℕ) (lines : LinesView) (s : StreamState) → Repeats payload s → StreamsBy place place payload lines lines s s
+unfolding stays
+streams_again place payload lines s r = λ first read emitted packets t h.
+    let ready = ready_from packets emitted s (λ e. absurd (r.over e)) h in
+    let P : List (List ℕ) → Type 0 = λ ps. StreamMade ps (emitted ++ payload) s in
+    record {
+      goes = stays first place read packets lines s t;
+      made = subst P (sym (append-nil packets)) (emitted_made packets emitted payload r.idles s s (let size = r.size in omega arith) refl refl refl (λ e. absurd (r.over e)) ready
+          (idles_given (stream_frames packets s.fcs ready.idles) emitted payload s.maker s.maker r.idles ready.made r.bytes refl));
+    }
+
+-- what is written beside the payload changes nothing that is known of it
+pub known_kept : (again : Option ℕ) (old new : List ℕ) (s : StreamState) (parity : ℕ) → IsKnown again old s → payload_of new ≡ payload_of old
+    → payload_parity_of 3824 new ≡ parity → parity ≡ payload_parity_of 3824 old → IsKnown again new s
+known_kept again old new s parity known same now was = λ p e.
+    let k = known p e in
+    let P : List ℕ → Type 0 = λ payload. Repeats payload s in
+    (subst P (sym same) k.0, k.1 ∙ sym was ∙ sym now)

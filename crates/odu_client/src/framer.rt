@@ -9,11 +9,15 @@ ghost use Rattle.odu_client.specs.ClientInput.{is_spent, bad_line, packets_begun
 ghost use Rattle.odu_client.specs.Framing.{FramerState, ClientStands, Fills, OfItsInput, OfItsText};
 ghost use Rattle.odu_client.specs.FramerSteps.{fresh_framer};
 ghost use Rattle.odu_client.specs.Steps.FramerSteps.{FramedSome, Makes, Gives};
-ghost use Rattle.otn_base.specs.declared.limits.TheConstants.{CLIENT_FRAME_BYTES};
+ghost use Rattle.odu_client.specs.Steps.Framing.{IsKnown, StreamsBy};
+ghost use Rattle.odu_client.specs.AlignedRuns.{payload_of};
+ghost use Rattle.frame_geometry.specs.PayloadParity.{payload_parity_of};
+ghost use Rattle.otn_base.specs.declared.limits.TheConstants.{CLIENT_COLUMNS, CLIENT_FRAME_BYTES, CLIENT_PAYLOAD_BYTES};
 
 use crate::client_overhead::ClientOverhead;
 use crate::packet_stream::PacketStream;
 use frame_geometry::Frame;
+use frame_overhead::payload_parity;
 use otn_base::limits::{CLIENT_COLUMNS, CLIENT_FRAME_BYTES};
 use otn_base::{Memory, Trace, copy_front};
 use otn_ports::{InPlaceOf, Source};
@@ -30,6 +34,8 @@ pub struct ClientFramer {
     stream: PacketStream,
     overhead: ClientOverhead,
     frame: Frame<CLIENT_COLUMNS>,
+    // Where the next frame has the payload of the one in hand: what that gives to the BIP-8.
+    again: Option<u8>,
     // How many bytes of the frame in hand were emitted: all where there is none.
     at: usize,
     // Whether the packets' end was not seen before the frame in hand.
@@ -39,6 +45,7 @@ pub struct ClientFramer {
 impl Model for ClientFramer {
     ghost use Rattle.std.specs.Prelude.{◌≡◌, ◌≤◌, drop, length};
     ghost use Rattle.odu_client.specs.Framing.{FramerState};
+    ghost use Rattle.odu_client.specs.Steps.Framing.{IsKnown};
     ghost use Rattle.otn_base.specs.declared.limits.TheConstants.{CLIENT_FRAME_BYTES};
 
     ghost Value = { FramerState };
@@ -52,7 +59,8 @@ impl Model for ClientFramer {
       fresh = f.fresh;
     } };
 
-    ghost invariant = { λ f. (f.at ≤ CLIENT_FRAME_BYTES) × (length f.frame ≡ CLIENT_FRAME_BYTES) };
+    ghost invariant = { λ f. (f.at ≤ CLIENT_FRAME_BYTES) × (length f.frame ≡ CLIENT_FRAME_BYTES)
+        × IsKnown f.again f.frame f.stream };
 }
 
 impl ClientFramer {
@@ -66,6 +74,7 @@ impl ClientFramer {
             stream: PacketStream::new(alloc)?,
             overhead: ClientOverhead::new(),
             frame: Frame::new(alloc)?,
+            again: None,
             at: CLIENT_FRAME_BYTES,
             fresh: true,
         })
@@ -79,6 +88,7 @@ impl ClientFramer {
         self.trace = same_trace(trace);
         self.stream.restart(fcs);
         self.overhead = ClientOverhead::new();
+        self.again = None;
         self.at = CLIENT_FRAME_BYTES;
         self.fresh = true;
     }
@@ -166,8 +176,15 @@ impl ClientFramer {
             return;
         }
         self.fresh = self.stream.goes_on();
-        self.stream.fill_payload(lines, place, &mut self.frame);
-        self.overhead.write(&mut self.frame, &self.trace);
+        let payload = next_payload(
+            &mut self.stream,
+            lines,
+            place,
+            &mut self.frame,
+            &mut self.again,
+        );
+        self.overhead
+            .write_with(&mut self.frame, &self.trace, payload);
         self.at = 0;
     }
 
@@ -186,6 +203,33 @@ impl ClientFramer {
         self.at += count;
         count
     }
+}
+
+// Puts the payload of the next frame in place of that of the last one, and answers what it gives to the BIP-8. Where it
+// is known that they are the same, nothing is written.
+fn next_payload<P: Source>(
+    stream: &mut PacketStream,
+    lines: &mut PacketLines,
+    place: &mut InPlaceOf<P>,
+    frame: &mut Frame<CLIENT_COLUMNS>,
+    again: &mut Option<u8>,
+) -> u8
+    requires { IsKnown again.old frame.old stream.old }
+    ensures size { length (payload_of frame.new) ≡ CLIENT_PAYLOAD_BYTES }
+    ensures goes { StreamsBy (in_view P.Source place.old) (in_view P.Source place.new) (payload_of frame.new)
+        (lines_view lines.old) (lines_view lines.new) stream.old stream.new }
+    ensures over { stream.old.answer ≢ Line.Packet → (place.new ≡ place.old) × (lines.new ≡ lines.old)
+        × (stream.new.answer ≡ stream.old.answer) }
+    ensures parity { result ≡ payload_parity_of CLIENT_COLUMNS frame.new }
+    ensures again { IsKnown again.new frame.new stream.new }
+{
+    if let Some(parity) = *again {
+        return parity;
+    }
+    let repeats = stream.fill_payload(lines, place, frame);
+    let parity = payload_parity(frame);
+    *again = if repeats { Some(parity) } else { None };
+    parity
 }
 
 // A trace with an empty identifier.

@@ -1,22 +1,25 @@
 // The payload of a client's frames: the packets of a text as a stream of GFP frames.
-ghost use Rattle.std.specs.Prelude.{◌≡◌, ◌≢◌, ◌≤◌, ℕ, List, [], ◌∷◌, ◌++◌, true, false, length, take, IfOk};
+ghost use Rattle.std.specs.Prelude.{◌≡◌, ◌≢◌, ◌≤◌, ℕ, List, [], ◌∷◌, ◌++◌, true, false, length, take, IfOk, IfSome};
 ghost use Rattle.otn_base.specs.declared.limits.TheConstants.{CLIENT_PAYLOAD_BYTES};
 ghost use Rattle.otn_ports.specs.InPlace.{in_view};
 ghost use Rattle.otn_ports.specs.Views.{InView};
 ghost use Rattle.packet_text.specs.LinesStand.{LinesView, lines_view};
 ghost use Rattle.odu_client.specs.AlignedRuns.{payload_of};
 ghost use Rattle.odu_client.specs.Framing.{StreamState, StreamMade, TextStands};
-ghost use Rattle.odu_client.specs.Steps.Framing.{StreamReady, GetsReady, StreamsBy};
+ghost use Rattle.odu_client.specs.Steps.Framing.{StreamReady, GetsReady, StreamsBy, IdlesBy, Repeats};
 ghost use Rattle.odu_client.specs.PacketStream.{fresh_stream};
 
 use frame_geometry::Frame;
 use gfp_frames::GfpMaker;
-use otn_base::Memory;
 use otn_base::limits::CLIENT_COLUMNS;
+use otn_base::{Memory, copy_front};
 use otn_ports::{InPlaceOf, Source};
 use packet_text::{Line, PacketLines};
 use std::alloc::Global;
 use std::marker::Model;
+
+// Bytes of an idle frame.
+const IDLE_BYTES: usize = 4;
 
 /// Makes one idle frame, then the frames of a text's packets without a gap, then idle frames for ever. A packet is read
 /// only when the frame before it is used up.
@@ -82,8 +85,30 @@ impl PacketStream {
         self.answer == Line::Packet
     }
 
-    /// The next bytes of the stream, as the payload of a frame, row by row.
+    /// The next bytes of the stream, as the payload of a frame, row by row. Says whether the next frame's will be the
+    /// same: no packet is left, and as much of an idle frame is in hand as before.
     pub(crate) fn fill_payload<P: Source>(
+        &mut self,
+        lines: &mut PacketLines,
+        place: &mut InPlaceOf<P>,
+        frame: &mut Frame<CLIENT_COLUMNS>,
+    ) -> bool
+        ensures size { length (payload_of frame.new) ≡ CLIENT_PAYLOAD_BYTES }
+        ensures goes { StreamsBy (in_view P.Source place.old) (in_view P.Source place.new) (payload_of frame.new)
+            (lines_view lines.old) (lines_view lines.new) self.old self.new }
+        ensures over { self.old.answer ≢ Line.Packet → (place.new ≡ place.old) × (lines.new ≡ lines.old)
+            × (self.new.answer ≡ self.old.answer) }
+        ensures again { result ≡ true → Repeats (payload_of frame.new) self.new }
+    {
+        let over = !self.goes_on();
+        let mut hand = [0; IDLE_BYTES];
+        let count = keep_few(self.maker.hand(), &mut hand);
+        self.fill_rows(lines, place, frame);
+        over && is_again(self.maker.hand(), &hand, count)
+    }
+
+    // The same, without a look at the next frame.
+    fn fill_rows<P: Source>(
         &mut self,
         lines: &mut PacketLines,
         place: &mut InPlaceOf<P>,
@@ -94,6 +119,7 @@ impl PacketStream {
             (lines_view lines.old) (lines_view lines.new) self.old self.new }
         ensures over { self.old.answer ≢ Line.Packet → (place.new ≡ place.old) × (lines.new ≡ lines.old)
             × (self.new.answer ≡ self.old.answer) }
+        ensures idle { IdlesBy (payload_of frame.new) self.old self.new }
     {
         self.fill(lines, place, frame.payload_row_mut(1));
         self.fill(lines, place, frame.payload_row_mut(2));
@@ -113,6 +139,7 @@ impl PacketStream {
             (lines_view lines.old) (lines_view lines.new) self.old self.new }
         ensures over { self.old.answer ≢ Line.Packet → (place.new ≡ place.old) × (lines.new ≡ lines.old)
             × (self.new.answer ≡ self.old.answer) }
+        ensures idle { IdlesBy into.new self.old self.new }
     {
         let mut done = 0;
         while done < into.len() {
@@ -131,6 +158,7 @@ impl PacketStream {
             (lines_view lines.new) self.old.fcs self.new }
         ensures over { self.old.answer ≢ Line.Packet → (place.new ≡ place.old) × (lines.new ≡ lines.old)
             × (self.new.answer ≡ self.old.answer) }
+        ensures stays { self.old.answer ≢ Line.Packet → self.new ≡ self.old }
     {
         if !self.maker.idle() {
             return;
@@ -155,11 +183,37 @@ impl PacketStream {
         ensures made { (packets : List (List ℕ)) (emitted : List ℕ) → StreamReady packets emitted self.old
             → StreamMade packets (emitted ++ take result into.new) self.new }
         ensures same { (self.new.fcs ≡ self.old.fcs) × (self.new.answer ≡ self.old.answer) }
+        ensures idle { IdlesBy (take result into.new) self.old self.new }
     {
         if self.answer == Line::Packet {
             return self.maker.give(into);
         }
         self.maker.fill(into);
         into.len()
+    }
+}
+
+// Keeps these bytes, where there is room for them, and says how many they are.
+fn keep_few(bytes: &[u8], kept: &mut [u8]) -> Option<usize>
+    ensures size { length kept.new ≡ length kept.old }
+    ensures within { IfSome result (λ n. n ≤ length kept.new) }
+    ensures kept { IfSome result (λ n. take n kept.new ≡ bytes.now) }
+{
+    let count = bytes.len();
+    if count > kept.len() {
+        return None;
+    }
+    copy_front(kept, bytes);
+    Some(count)
+}
+
+// Whether bytes were kept, so many, and these are the same.
+fn is_again(bytes: &[u8], kept: &[u8], count: Option<usize>) -> bool
+    requires { IfSome count (λ n. n ≤ length kept.now) }
+    ensures { result ≡ true → (was : List ℕ) → IfSome count (λ n. take n kept.now ≡ was) → bytes.now ≡ was }
+{
+    match count {
+        Some(n) => bytes == &kept[..n],
+        None => false,
     }
 }

@@ -33,7 +33,7 @@ impl Model for PathWriter {
 
 impl PathWriter {
     ghost use Rattle.frame_overhead.specs.TwoBefore.{HasSent, parity_due, or_zero};
-    ghost use Rattle.odu_path.specs.Path.{IsOduFrame};
+    ghost use Rattle.odu_path.specs.Path.{HasPath, IsOduFrame};
 
     /// No frame was written.
     pub fn new() -> PathWriter
@@ -51,6 +51,7 @@ impl PathWriter {
             → IsOduFrame COLS trace.now mfas (or_zero (parity_due COLS frames)) frame.old frame.new }
         ensures sent { (frames : List (List ℕ)) → HasSent COLS frames self.old
             → HasSent COLS (frames ++ frame.new ∷ []) self.new }
+        ensures path { (tti : ℕ) × (bip : ℕ) × HasPath COLS tti bip frame.old frame.new }
         ensures size { length frame.new ≡ 4 * COLS }
     {
         let parity = parity(frame);
@@ -70,6 +71,7 @@ impl PathWriter {
             → IsOduFrame COLS trace.now mfas (or_zero (parity_due COLS frames)) frame.old frame.new }
         ensures sent { (frames : List (List ℕ)) → HasSent COLS frames self.old
             → HasSent COLS (frames ++ frame.new ∷ []) self.new }
+        ensures path { (tti : ℕ) × (bip : ℕ) × HasPath COLS tti bip frame.old frame.new }
         ensures parity { parity_of COLS frame.new ≡ parity }
         ensures size { length frame.new ≡ 4 * COLS }
     {

@@ -1,12 +1,15 @@
 -- Steps of `ask`, `fill_payload` and others: what private contracts alone cite, beside the definitions of `Framing`.
-use Rattle.std.specs.Prelude.{◌≡◌, ◌≢◌, ◌≤◌, ℕ, Bool, List, [], ◌∷◌, ◌++◌, length}
+use Rattle.std.specs.Prelude.{◌≡◌, ◌≢◌, ◌≤◌, ℕ, Bool, List, [], ◌∷◌, ◌++◌, Option, Some, length}
 use Rattle.otn_ports.specs.Views.{InView}
 use Rattle.gfp_frames.specs.GfpText.{stream_frames}
-use Rattle.gfp_frames.specs.Maker.{HasMade}
+use Rattle.gfp_frames.specs.Maker.{HasMade, idle_bytes}
+use Rattle.frame_geometry.specs.PayloadParity.{payload_parity_of}
+use Rattle.otn_base.specs.declared.limits.TheConstants.{CLIENT_COLUMNS, CLIENT_PAYLOAD_BYTES}
 use Rattle.packet_text.specs.LinesStand.{LinesView, MayBe}
 use Rattle.otn_base.specs.Counts.{saturated}
 use Rattle.packet_text.specs.declared.line.Line.TheVariants.{Packet}
 use Rattle.odu_client.specs.ClientInput.{gfp_length}
+use Rattle.odu_client.specs.AlignedRuns.{payload_of}
 use Rattle.odu_client.specs.Framing.{StreamState, StreamMade, TextStands}
 
 -- the same where the next byte may be that of a packet's frame that is not begun, or of the first idle frame behind the
@@ -47,3 +50,19 @@ abbrev pub StreamsBy : (was now : InView) (bytes : List ℕ) (old new : LinesVie
 StreamsBy was now bytes old new stream next = (first : InView) (read emitted : List ℕ) (packets : List (List ℕ))
     → TextStands first was read packets old stream → StreamMade packets emitted stream
     → StreamGoes first now read (emitted ++ bytes) packets old new stream.fcs next
+
+-- what a call does that emits these bytes where no packet is left: the frame in hand, and then idle frames
+pub record IdlesBy (bytes : List ℕ) (stream next : StreamState) : Type 0 where
+  pub so : stream.answer ≢ Packet → (n : ℕ) × (bytes ++ next.maker.hand ≡ stream.maker.hand ++ idle_bytes n)
+
+-- where no packet is left: the stream goes on with this payload, and stands then where it stood before
+pub record Repeats (payload : List ℕ) (stream : StreamState) : Type 0 where
+  pub over : stream.answer ≢ Packet
+  pub size : length payload ≡ CLIENT_PAYLOAD_BYTES
+  pub idles : ℕ
+  pub bytes : payload ++ stream.maker.hand ≡ stream.maker.hand ++ idle_bytes idles
+
+-- it is known that the payload of this frame is the next one's too, and what it gives to the BIP-8
+abbrev pub IsKnown : (again : Option ℕ) (frame : List ℕ) (stream : StreamState) → Type 0
+IsKnown again frame stream = (parity : ℕ) → again ≡ Some parity
+    → Repeats (payload_of frame) stream × (parity ≡ payload_parity_of CLIENT_COLUMNS frame)

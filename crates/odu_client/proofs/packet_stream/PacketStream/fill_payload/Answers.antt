@@ -1,31 +1,16 @@
-use Rattle.std.proofs.Common.{sym, ap, ◌∙◌, length}
-use Rattle.odu_client.proofs.PayloadRows.{payload_filled, rows_size}
-use Rattle.odu_client.proofs.Streaming.{streams_both, streams_same}
+use Rattle.std.proofs.Common.{rules, ap, sym, ◌∙◌}
+use Rattle.odu_client.specs.Framing.{StreamState}
+use Rattle.odu_client.proofs.Streaming.{repeats_from}
+use Rattle.odu_client.proofs.packet_stream.PacketStream.fill_payload.Goals.{then-over, else-over}
 use Rattle.odu_client.proofs.packet_stream.PacketStream.fill_payload.Goals as goal
 
-pub returns-clause-size : goal.returns-clause-size
-returns-clause-size g c =
-    let s1 = c.fill.ensures.size ∙ c.payload_row_mut.ensures.size in
-    let s2 = c.fill-2.ensures.size ∙ c.payload_row_mut-2.ensures.size in
-    let s3 = c.fill-3.ensures.size ∙ c.payload_row_mut-3.ensures.size in
-    let s4 = c.fill-4.ensures.size ∙ c.payload_row_mut-4.ensures.size in
-    ap length (payload_filled c.args.frame.now c.fill.new.into c.fill-2.new.into c.fill-3.new.into c.fill-4.new.into c.payload_row_mut.ensures.frame s1 s2 s3 s4)
-    ∙ rows_size c.fill.new.into c.fill-2.new.into c.fill-3.new.into c.fill-4.new.into s1 s2 s3 s4
-
-pub returns-clause-goes : goal.returns-clause-goes
-returns-clause-goes g c =
-    let s1 = c.fill.ensures.size ∙ c.payload_row_mut.ensures.size in
-    let s2 = c.fill-2.ensures.size ∙ c.payload_row_mut-2.ensures.size in
-    let s3 = c.fill-3.ensures.size ∙ c.payload_row_mut-3.ensures.size in
-    let s4 = c.fill-4.ensures.size ∙ c.payload_row_mut-4.ensures.size in
-    streams_same _ _ _ _ _ _ _ _
-    (sym (payload_filled c.args.frame.now c.fill.new.into c.fill-2.new.into c.fill-3.new.into c.fill-4.new.into c.payload_row_mut.ensures.frame s1 s2 s3 s4))
-    (streams_both _ _ _ _ _ _ _ _ _ _ _ (streams_both _ _ _ _ _ _ _ _ _ _ _ (streams_both _ _ _ _ _ _ _ _ _ _ _ c.fill.ensures.goes c.fill-2.ensures.goes) c.fill-3.ensures.goes) c.fill-4.ensures.goes)
-
-pub returns-clause-over : goal.returns-clause-over
-returns-clause-over g c = λ other.
-    let a = c.fill.ensures.over other in
-    let b = c.fill-2.ensures.over (λ e. other (sym a.2 ∙ e)) in
-    let d = c.fill-3.ensures.over (λ e. other (sym a.2 ∙ sym b.2 ∙ e)) in
-    let e = c.fill-4.ensures.over (λ f. other (sym a.2 ∙ sym b.2 ∙ sym d.2 ∙ f)) in
-    (e.0 ∙ d.0 ∙ b.0 ∙ a.0, e.1 ∙ d.1 ∙ b.1 ∙ a.1, e.2 ∙ d.2 ∙ b.2 ∙ a.2)
+pub returns-clause-again : goal.returns-clause-again
+returns-clause-again g c = λ yes. elim c.if-over.branch [
+  | then-over w ↦
+      let other = c.goes_on-over.ensures.no (search rules) in
+      let before = c.hand.ensures ∙ ap (λ (s : StreamState). s.maker.hand) c.self.view_is in
+      let after = sym (ap (λ (s : StreamState). s.maker.hand) c.self-2.view_is) ∙ sym w.hand-then-over.ensures in
+      let again = w.is_again.ensures (sym w.result-is ∙ yes) _ c.keep_few-count.ensures.kept in
+      repeats_from _ _ _ other (c.fill_rows.ensures.over other).2 c.fill_rows.ensures.size c.fill_rows.ensures.idle (after ∙ again ∙ before)
+  | else-over w ↦ absurd (let bad : ⊥ = cc in bad)
+]
