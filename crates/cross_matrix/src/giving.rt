@@ -1,5 +1,5 @@
 // The part of a pipe that gives to the connection's output.
-ghost use Rattle.std.specs.Prelude.{◌≡◌, ◌<◌, ◌≤◌, ◌+◌, ◌-◌, ◌*◌, ◌/◌, ◌&&◌, ℕ, List, [], ◌∷◌, ◌++◌, IsSome, is_some, length, nat_lt};
+ghost use Rattle.std.specs.Prelude.{◌≡◌, ◌<◌, ◌≤◌, ◌+◌, ◌-◌, ◌*◌, ◌/◌, ◌&&◌, ℕ, true, false, List, [], ◌∷◌, ◌++◌, IsSome, is_some, length, nat_lt};
 ghost use Rattle.otn_base.specs.LineSlots.{slots_of};
 ghost use Rattle.otn_base.specs.declared.limits.TheConstants.{GROUPS, LINE_COLUMNS as COLUMNS, ROWS};
 ghost use Rattle.otn_ports.specs.OutPlace.{out_view};
@@ -92,6 +92,7 @@ impl GivingPart {
             → OnSource self.new (StandsAfter own (turns ++ outgoing.old.bytes ∷ []) 0) }
         ensures receiver { IsToClient self.old → self.new ≡ self.old }
         ensures kept { IsToClient self.new → outgoing.new ≡ outgoing.old }
+        ensures taken { (IsToClient self.new → ⊥) → outgoing.new.bytes ≡ [] }
         ensures entry { (to : ToEnd) → GivesTo to self.old → GivesTo to self.new }
         ensures filled { frames_filled self.new ≡ 0 }
         ensures begun { IsBegun self.new }
@@ -106,6 +107,17 @@ impl GivingPart {
                 outgoing.exchange(&mut buffer, 0..0);
             }
             GivingPart::Client(_) => {}
+        }
+    }
+
+    /// Whether it gives to a line.
+    pub(crate) fn gives_to_line(&self) -> bool
+        ensures yes { result ≡ true → IsToClient self.now → ⊥ }
+        ensures other { result ≡ false → IsToClient self.now }
+    {
+        match self {
+            GivingPart::Line(_) => true,
+            GivingPart::Client(_) => false,
         }
     }
 

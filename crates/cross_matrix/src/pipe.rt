@@ -1,9 +1,9 @@
 // The pipe of a connection. What its input brings in a turn is kept beside what it brought in the turn before, which
 // goes to the output: so the two parts may be used in any order within a turn, and `fence` turns the sides. There a
 // line's source takes over what it is to give, without a copy; for a client it stays in the pipe.
-ghost use Rattle.std.specs.Prelude.{◌≡◌, ◌<◌, ◌≤◌, ◌+◌, ℕ, suc, false, List, [], Option, IsSome, IsTrue, option_map};
+ghost use Rattle.std.specs.Prelude.{◌≡◌, ◌<◌, ◌≤◌, ◌+◌, ◌*◌, ℕ, suc, false, List, [], Option, IsSome, IsTrue, option_map};
 ghost use Rattle.otn_base.specs.LineSlots.{slots_of};
-ghost use Rattle.otn_base.specs.declared.limits.TheConstants.{LINE_COLUMNS as COLUMNS, ROWS};
+ghost use Rattle.otn_base.specs.declared.limits.TheConstants.{GROUPS, LINE_COLUMNS as COLUMNS, ROWS};
 ghost use Rattle.odu_client.specs.ClientInput.{packets_begun, is_spent, bad_line, emitted_before};
 ghost use Rattle.otn_ports.specs.InPlace.{in_view};
 ghost use Rattle.otn_ports.specs.OutPlace.{out_view};
@@ -16,7 +16,7 @@ ghost use Rattle.tributary_model.specs.Places.{tributary_of, byte_at};
 ghost use Rattle.tributary_model.specs.Puts.{WasPut, IsSourcePlace};
 ghost use Rattle.device_model.specs.Through.{OwnInput, got_by, state_in};
 ghost use Rattle.cross_matrix.specs.InTurn.{next_taken, may_end, takes_one_slot, next_filled};
-ghost use Rattle.cross_matrix.specs.Parts.{OnSink, OnSource, IsOfClient, IsTextOver, IsToClient, frames_taken, frames_filled, turns_taken, and_frame, line_over, next_turn, ClientInStands, ClientOutStands, OfItsClient, IsInputOf, IsBegun, IsReceived};
+ghost use Rattle.cross_matrix.specs.Parts.{OnSink, OnSource, IsOfClient, IsTextOver, IsToClient, frames_taken, frames_filled, turns_taken, and_frame, line_over, next_turn, ClientInStands, ClientOutStands, OfItsClient, IsInputOf, IsBegun, IsReceived, HasSlots};
 ghost use Rattle.cross_matrix.specs.Pipes.{PipeView, IsPipeOf, PipeStands, PipeAt, OfItsTurn, OfOpenTurn, OfLineTurn, OfDoneTurn, OfFrame, OfOwnFrame, ClientTook};
 
 use crate::FromState;
@@ -161,6 +161,12 @@ impl Pipe {
         mem::swap(&mut self.incoming, &mut self.outgoing);
         self.incoming.clear();
         self.giving.fence(&mut self.outgoing);
+        reuse_buffer(
+            &self.giving,
+            &mut self.taking,
+            &mut self.incoming,
+            &mut self.outgoing,
+        );
     }
 
     /// What the connection comes from is, after the turns that it took.
@@ -220,5 +226,27 @@ impl Pipe {
         ensures { result ≡ next_filled self.now.giving }
     {
         self.giving.next_filled()
+    }
+}
+
+// Where the pipe gives to a line, its next bytes go into the buffer that the source gave back: that one was read last,
+// so it is the most likely to be in the cache still.
+fn reuse_buffer(
+    giving: &GivingPart,
+    taking: &mut TakingPart,
+    incoming: &mut Burst,
+    outgoing: &mut Burst,
+)
+    requires room { (m : ℕ) × HasSlots m taking.old × (outgoing.old.room ≡ m * (GROUPS + 1)) }
+    requires alike { incoming.old.room ≡ outgoing.old.room }
+    requires empty { incoming.old.bytes ≡ [] }
+    requires taken { (IsToClient giving.now → ⊥) → outgoing.old.bytes ≡ [] }
+    ensures taking { taking.new ≡ taking.old }
+    ensures incoming { incoming.new ≡ incoming.old }
+    ensures outgoing { outgoing.new ≡ outgoing.old }
+{
+    if giving.gives_to_line() {
+        mem::swap(incoming, outgoing);
+        taking.swap_spare(incoming);
     }
 }

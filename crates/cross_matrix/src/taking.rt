@@ -103,6 +103,25 @@ impl TakingPart {
         }
     }
 
+    /// Gives a line's sink the buffer of `incoming`, in which no bytes are, for the next bytes of its tributary, and takes
+    /// another one for it.
+    pub(crate) fn swap_spare(&mut self, incoming: &mut Burst)
+        requires room { (m : ℕ) × HasSlots m self.old × (incoming.old.room ≡ m * (GROUPS + 1)) }
+        requires empty { incoming.old.bytes ≡ [] }
+        ensures same { self.new ≡ self.old }
+        ensures incoming { incoming.new ≡ incoming.old }
+    {
+        match self {
+            TakingPart::Line(sink) => {
+                let (mut buffer, _) = incoming.hand_out();
+                sink.swap_spare(&mut buffer);
+                incoming.exchange(&mut buffer, 0..0);
+            }
+            TakingPart::Client(_) => {}
+            TakingPart::Signal(_) => {}
+        }
+    }
+
     /// Takes so many bytes of a client's stream.
     pub(crate) fn take_client<P: Source>(
         &mut self,

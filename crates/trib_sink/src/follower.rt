@@ -150,6 +150,16 @@ impl Follower {
         self.payload.hand_over(buffer)
     }
 
+    /// Where nothing stands in the buffer of a turn's own bytes, it changes places with this one, of as many bytes. Those
+    /// of either are of no account.
+    pub(crate) fn swap_spare(&mut self, buffer: &mut Vec<u8>)
+        requires room { vec_len buffer.old ≡ self.old.extraction.slots * (GROUPS + 1) }
+        ensures same { self.new ≡ self.old }
+        ensures room_stays { vec_len buffer.new ≡ vec_len buffer.old }
+    {
+        self.payload.swap_spare(buffer);
+    }
+
     // Ends a turn before which it was Waiting: emits nothing.
     fn from_waiting(&mut self, n: u8, first: Option<Said>)
         requires standing { self.old.standing ≡ Waiting n }

@@ -267,6 +267,18 @@ impl Payload {
         &self.fresh[self.from..self.past]
     }
 
+    /// Where nothing stands in the buffer of a turn's own bytes, it changes places with this one, of as many bytes. Those
+    /// of either are of no account.
+    pub(crate) fn swap_spare(&mut self, buffer: &mut Vec<u8>)
+        requires room { vec_len buffer.old ≡ self.old.slots * (GROUPS + 1) }
+        ensures same { self.new ≡ self.old }
+        ensures room_stays { vec_len buffer.new ≡ vec_len buffer.old }
+    {
+        if self.end == 0 && self.past == 0 {
+            mem::swap(buffer, &mut self.fresh);
+        }
+    }
+
     /// Hands out what the last turn emitted, before a frame is taken: the buffer in which it stands changes places with
     /// this one, of as many bytes, and the answer is where it stands there.
     pub(crate) fn hand_over(&mut self, buffer: &mut Vec<u8>) -> Range<usize>
