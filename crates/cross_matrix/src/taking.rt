@@ -103,8 +103,8 @@ impl TakingPart {
         }
     }
 
-    /// Gives a line's sink the buffer of `incoming`, in which no bytes are, for the next bytes of its tributary, and takes
-    /// another one for it.
+    /// Gives a line's sink the buffer of `incoming`, in which no bytes are, for the next bytes of its tributary, and
+    /// takes another one for it.
     pub(crate) fn swap_spare(&mut self, incoming: &mut Burst)
         requires room { (m : ℕ) × HasSlots m self.old × (incoming.old.room ≡ m * (GROUPS + 1)) }
         requires empty { incoming.old.bytes ≡ [] }

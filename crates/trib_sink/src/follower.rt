@@ -150,8 +150,8 @@ impl Follower {
         self.payload.hand_over(buffer)
     }
 
-    /// Where nothing stands in the buffer of a turn's own bytes, it changes places with this one, of as many bytes. Those
-    /// of either are of no account.
+    /// Where nothing stands in the buffer of a turn's own bytes, it changes places with this one, of as many bytes.
+    /// Those of either are of no account.
     pub(crate) fn swap_spare(&mut self, buffer: &mut Vec<u8>)
         requires room { vec_len buffer.old ≡ self.old.extraction.slots * (GROUPS + 1) }
         ensures same { self.new ≡ self.old }

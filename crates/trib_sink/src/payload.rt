@@ -267,8 +267,8 @@ impl Payload {
         &self.fresh[self.from..self.past]
     }
 
-    /// Where nothing stands in the buffer of a turn's own bytes, it changes places with this one, of as many bytes. Those
-    /// of either are of no account.
+    /// Where nothing stands in the buffer of a turn's own bytes, it changes places with this one, of as many bytes.
+    /// Those of either are of no account.
     pub(crate) fn swap_spare(&mut self, buffer: &mut Vec<u8>)
         requires room { vec_len buffer.old ≡ self.old.slots * (GROUPS + 1) }
         ensures same { self.new ≡ self.old }
