@@ -1,6 +1,8 @@
 // A source that looks ahead: what it asks its reader for, and what it gives then.
+use otn_base::limits::LINE_FRAME_BYTES;
 use otn_ports::{
-    Failed, FileSource, InPlace, InPlaceOf, InPort, MemSource, ReaderSource, Reading, Source,
+    Failed, FileSource, InPlace, InPlaceOf, InPort, MemSource, ReadBlock, ReaderSource, Reading,
+    Source,
 };
 use std::alloc::Global;
 use std::cell::Cell;
@@ -111,7 +113,7 @@ fn an_interrupted_look_ahead_is_made_again(rt: HostRuntime) -> Result<(), Fail> 
 fn small_reads_go_by_blocks(rt: HostRuntime) -> Result<(), Fail> {
     let calls = counted(rt.alloc())?;
     let mut source = source(&calls, 2, ErrorKind::Other)?;
-    source.read_by_blocks(rt.alloc());
+    source.read_by_blocks(rt.alloc(), ReadBlock::Text);
     assert_eq!(rt; calls.get(), 0);
     let mut into = [0u8; 3];
     for (answer, byte, left, asked) in [
@@ -134,6 +136,39 @@ fn small_reads_go_by_blocks(rt: HostRuntime) -> Result<(), Fail> {
     Ok(())
 }
 
+// A reader that gives as much as it is asked for, and counts its calls and what the last one asked.
+#[derive(Drop)]
+struct Filling {
+    calls: Rc<Cell<u8>>,
+    asked: Rc<Cell<usize>>,
+}
+
+impl Read for Filling {
+    fn read(&mut self, into: &mut [u8]) -> io::Result<usize> {
+        self.calls.set(self.calls.get().saturating_add(1));
+        self.asked.set(into.len());
+        Ok(into.len())
+    }
+}
+
+#[test]
+fn a_line_is_read_by_eight_frames(rt: HostRuntime) -> Result<(), Fail> {
+    let calls = counted(rt.alloc())?;
+    let asked = Rc::new(rt.alloc(), Cell::new(0_usize))?;
+    let mut source = ReaderSource::over(Filling {
+        calls: calls.clone()?,
+        asked: asked.clone()?,
+    });
+    source.read_by_blocks(rt.alloc(), ReadBlock::Frames);
+    let mut frame = zeros(rt.alloc(), LINE_FRAME_BYTES)?;
+    for made in [1_u8, 1, 1, 1, 1, 1, 1, 1, 2] {
+        assert_eq!(rt; source.read(&mut frame), Ok(LINE_FRAME_BYTES));
+        assert_eq!(rt; calls.get(), made);
+        assert_eq!(rt; asked.get(), 8 * LINE_FRAME_BYTES);
+    }
+    Ok(())
+}
+
 // So many bytes.
 fn zeros(alloc: Global, n: usize) -> Result<Vec<u8>, Fail> {
     Ok(vec![in alloc; 0u8; n]?)
@@ -143,7 +178,7 @@ fn zeros(alloc: Global, n: usize) -> Result<Vec<u8>, Fail> {
 #[test]
 fn the_end_comes_behind_the_last_block(rt: HostRuntime) -> Result<(), Fail> {
     let mut source = ReaderSource::over(Cursor::new(zeros(rt.alloc(), 7)?));
-    source.read_by_blocks(rt.alloc());
+    source.read_by_blocks(rt.alloc(), ReadBlock::Text);
     let mut into = [0u8; 4];
     for answer in [Ok(4), Ok(3), Ok(0), Ok(0)] {
         assert_eq!(rt; source.read(&mut into), answer);

@@ -8,8 +8,8 @@ ghost use Rattle.program_words.specs.Files.{IsInput, IsOutput};
 use line_tool::{NumberChooser, Status, order_of, run};
 use otn_base::Memory;
 use otn_ports::{
-    Chooser, FileSink, FileSource, FirstReady, InPlaceOf, OutPlaceOf, Rack, Sink, Source,
-    StdoutSink,
+    Chooser, FileSink, FileSource, FirstReady, InPlaceOf, OutPlaceOf, Rack, ReadBlock, Sink,
+    Source, StdoutSink,
 };
 use pages::text_of;
 use pcap_packets::{PcapSink, PcapSource};
@@ -90,10 +90,14 @@ fn open_input(rt: &HostRuntime, file: InputFile, bays: &mut FileBays) -> Result<
         return Ok(());
     };
     match file {
-        InputFile::Line(n) => bays.set_line_in(n, InPlaceOf::Live(InputPort::Plain(source), 0)),
+        InputFile::Line(n) => {
+            // a line is read by frames of 16,320 bytes
+            source.read_by_blocks(alloc, ReadBlock::Frames);
+            bays.set_line_in(n, InPlaceOf::Live(InputPort::Plain(source), 0));
+        }
         InputFile::Text(n) => {
             // a text is read by pieces of 4,096 bytes
-            source.read_by_blocks(alloc);
+            source.read_by_blocks(alloc, ReadBlock::Text);
             bays.set_client_in(n, InPlaceOf::Live(InputPort::Plain(source), 0));
         }
         InputFile::Capture(n) => {

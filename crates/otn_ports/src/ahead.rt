@@ -11,11 +11,30 @@ use std::alloc::{AllocError, Global};
 use std::io::{ErrorKind, Read};
 use std::marker::Model;
 
-// Bytes that a reader is asked for at a time: eight frames of a line; and where each read goes by the block, as is best
-// where reads are small.
-const BLOCK_BYTES: usize = 8 * LINE_FRAME_BYTES;
+// Bytes that a reader is asked for at a time: eight frames of a line, or as many of a text as are best.
+const FRAMES_BYTES: usize = 8 * LINE_FRAME_BYTES;
 
-const SMALL_BLOCK_BYTES: usize = 32_768;
+const TEXT_BYTES: usize = 32_768;
+
+/// What a reader is asked for at a time where each read goes by a block: eight frames of a line, which are 130,560
+/// bytes, or 32,768 bytes of a text.
+#[derive(Clone, Copy, Debug)]
+pub enum ReadBlock {
+    Frames,
+    Text,
+}
+
+impl ReadBlock {
+    // How many bytes it has.
+    fn bytes(self) -> usize
+        ensures { 0 < result }
+    {
+        match self {
+            ReadBlock::Frames => FRAMES_BYTES,
+            ReadBlock::Text => TEXT_BYTES,
+        }
+    }
+}
 
 /// The bytes at hand, which stand in a block, and a refusal that no read has answered yet. The block is made at the
 /// first look ahead, or where each read is to go by it.
@@ -53,15 +72,15 @@ impl Ahead {
         }
     }
 
-    /// Each read goes by the block from here on, which is made where there is none yet. Without memory for it all
+    /// Each read goes by such a block from here on, which is made where there is none yet. Without memory for it all
     /// stays as it is.
-    pub(crate) fn go_by_blocks(&mut self, alloc: Global)
+    pub(crate) fn go_by_blocks(&mut self, alloc: Global, block: ReadBlock)
         ensures { self.new ≡ self.old }
     {
         if self.block.is_none() {
             self.from = 0;
             self.to = 0;
-            self.block = room(alloc, SMALL_BLOCK_BYTES).ok();
+            self.block = room(alloc, block.bytes()).ok();
         }
         self.each = self.block.is_some();
     }
@@ -228,7 +247,7 @@ fn block_of(alloc: Global, block: Option<Vec<u8>>) -> Option<Vec<u8>>
 {
     match block {
         Some(block) => Some(block),
-        None => room(alloc, BLOCK_BYTES).ok(),
+        None => room(alloc, FRAMES_BYTES).ok(),
     }
 }
 

@@ -48,6 +48,7 @@ mod spoiled_source;
 mod system;
 mod writer_sink;
 
+pub use ahead::ReadBlock;
 pub use asking::ask_byte;
 pub use bays::{Bays, Rack};
 pub use chooser::{Chooser, FirstReady};

@@ -3,7 +3,7 @@ ghost use Rattle.std.specs.Prelude.{◌≡◌, ◌<◌, ◌≤◌, false, true, 
 ghost use Rattle.otn_ports.specs.Bytes.{faults_after, HasFailed};
 ghost use Rattle.otn_ports.specs.Reads.{ended_after};
 
-use crate::ahead::Ahead;
+use crate::ahead::{Ahead, ReadBlock};
 use crate::system::{count, refuse};
 use crate::{Failed, Source};
 use std::alloc::Global;
@@ -62,13 +62,13 @@ impl<R> ReaderSource<R> {
         }
     }
 
-    /// From here on its reader is asked for 32 KiB at a time, out of which smaller reads are answered: as is best for
-    /// text, which is read by small pieces. What it gives is the same. Without memory for such a block all stays as it
-    /// is.
-    pub fn read_by_blocks(&mut self, alloc: Global)
+    /// From here on its reader is asked for such a block at a time, out of which smaller reads are answered: as is best
+    /// for a text, which is read by small pieces, and for a line, which is read by frames. What it gives is the same.
+    /// Without memory for the block all stays as it is.
+    pub fn read_by_blocks(&mut self, alloc: Global, block: ReadBlock)
         ensures { self.new ≡ self.old }
     {
-        self.ahead.go_by_blocks(alloc);
+        self.ahead.go_by_blocks(alloc, block);
     }
 }
 

@@ -13,7 +13,7 @@ ghost use Rattle.otn_view.specs.Answers.{viewed_status};
 use command_base::{Status, status_of};
 use line_view::write_view;
 use otn_base::Memory;
-use otn_ports::{FileSource, InPlaceOf, Sink, Source, StdoutSink};
+use otn_ports::{FileSource, InPlaceOf, ReadBlock, Sink, Source, StdoutSink};
 use plan_views::{Side, Viewed, view_by_plan};
 use program_words::{exit_code, given_words, status_of_page};
 use std::alloc::Global;
@@ -61,7 +61,9 @@ fn serve(rt: &HostRuntime) -> Result<Status, Memory> {
         return Ok(Status::Words);
     };
     let file = fs::open(rt, words[0].as_str()).ok();
-    let mut line = InPlaceOf::Live(FileSource::of(file), 0);
+    let mut source = FileSource::of(file);
+    source.read_by_blocks(rt.alloc(), ReadBlock::Frames);
+    let mut line = InPlaceOf::Live(source, 0);
     let mut report = StdoutSink::of(rt.stdout());
     match asked {
         Asked::Given(kind, scrambled, shown) => Ok(status_of(write_view(
