@@ -229,8 +229,8 @@ impl Pipe {
     }
 }
 
-// Where the pipe gives to a line, its next bytes go into the buffer that the source gave back: that one was read last,
-// so it is the most likely to be in the cache still.
+// Where the pipe gives to a line, its next bytes go into the buffer that the source gave back, which it read last. So
+// fewer buffers go round.
 fn reuse_buffer(
     giving: &GivingPart,
     taking: &mut TakingPart,

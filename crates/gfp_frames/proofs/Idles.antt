@@ -32,7 +32,7 @@ idle_size zero = refl
 idle_size (suc n) = length-append (core_header 0) (idle_bytes n) ∙ (let h = header_size 0 in let r = idle_size n in omega arith)
 
 -- some and some more
-idles_join : (n m : ℕ) → idle_bytes n ++ idle_bytes m ≡ idle_bytes (n + m)
+pub idles_join : (n m : ℕ) → idle_bytes n ++ idle_bytes m ≡ idle_bytes (n + m)
 idles_join zero m = ap idle_bytes (let e : m ≡ 0 + m = omega arith in e)
 idles_join (suc n) m =
     append_assoc (core_header 0) (idle_bytes n) (idle_bytes m) ∙ ap (λ y. core_header 0 ++ y) (idles_join n m) ∙ ap idle_bytes (let e : suc (n + m) ≡ suc n + m = omega arith in e)

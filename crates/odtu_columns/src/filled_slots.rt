@@ -152,17 +152,18 @@ fn clear_slot(bytes: &mut [u8], k: u8, filled: bool)
         return;
     }
     let at = SLOT_FRAME * (k as usize - 1);
-    clear_at(bytes, at, SLOT_FRAME);
+    clear_run(bytes, at, at + SLOT_FRAME);
 }
 
-// Writes 0 into so many bytes from a place on; every other byte stays.
-fn clear_at(bytes: &mut [u8], at: usize, count: usize)
-    requires room { at + count ≤ length bytes.old }
-    ensures size { length bytes.new ≡ length bytes.old }
-    ensures zero { (n : ℕ) → at ≤ n → n < at + count → slice_index bytes.new n ≡ 0 }
-    ensures others { (n : ℕ) → (n < at) ⊎ (at + count ≤ n) → slice_index bytes.new n ≡ slice_index bytes.old n }
+// Writes 0 into the bytes from a place up to another; every other byte stays.
+pub(crate) fn clear_run(bytes: &mut [u8], from: usize, to: usize)
+    requires order { from ≤ to }
+    requires room { to ≤ length bytes.old }
+    ensures zero { (place : ℕ) → from ≤ place → place < to → slice_index bytes.new place ≡ 0 }
+    ensures kept { (place : ℕ) → (place < from) ⊎ (to ≤ place)
+        → slice_index bytes.new place ≡ slice_index bytes.old place }
 {
-    bytes[at..at + count].fill(0);
+    bytes[from..to].fill(0);
 }
 
 // Writes these bytes from a place on; every other byte stays.

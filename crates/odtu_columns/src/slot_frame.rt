@@ -10,7 +10,7 @@ ghost use Rattle.odtu_columns.specs.Steps.BySlots.{IsOutside, RowJoined};
 
 use crate::RowGroups;
 use crate::fill::FillFrame;
-use crate::filled_slots::FilledSlots;
+use crate::filled_slots::{FilledSlots, clear_run};
 use crate::justification::put_message;
 use crate::put::put_groups;
 use frame_geometry::Frame;
@@ -136,17 +136,6 @@ fn clear_between_rows(bytes: &mut [u8])
         3 * LINE_COLUMNS + LAST_PAYLOAD_COLUMN,
         LINE_FRAME_BYTES,
     );
-}
-
-// Writes 0 from a place on to before another; every other byte stays.
-fn clear_run(bytes: &mut [u8], from: usize, to: usize)
-    requires order { from ≤ to }
-    requires room { to ≤ length bytes.old }
-    ensures zero { (place : ℕ) → from ≤ place → place < to → slice_index bytes.new place ≡ 0 }
-    ensures kept { (place : ℕ) → (place < from) ⊎ (to ≤ place)
-        → slice_index bytes.new place ≡ slice_index bytes.old place }
-{
-    bytes[from..to].fill(0);
 }
 
 // Writes the payload of a row, keeps every other byte, and answers what the row gives to the parity.

@@ -9,7 +9,7 @@ use Rattle.gfp_frames.specs.GfpText.{Frame, Idle, Client, text_of, stream_frames
 use Rattle.gfp_frames.specs.Maker.{MakerState, HasMade, made_frame, fresh, idle_bytes}
 use Rattle.gfp_frames.specs.CoreHeader.{core_header}
 use Rattle.gfp_scrambler.specs.Register.{scrambled}
-use Rattle.gfp_frames.proofs.Idles.{idles_given}
+use Rattle.gfp_frames.proofs.Idles.{idles_given, idles_join}
 use Rattle.gfp_frames.proofs.Texts.{frame_made, fresh_made, header_size}
 use Rattle.packet_text.specs.LinesStand.{LinesView, LinesStand, TakeStands, is_packet, given_by}
 use Rattle.otn_base.specs.Counts.{saturated}
@@ -258,11 +258,6 @@ pub streams_same : (was now : InView) (x y : List ℕ) (a b : LinesView) (s t : 
 streams_same was now x y a b s t e one = let P : List ℕ → Type 0 = λ z. StreamsBy was now z a b s t in subst P e one
 
 -- ---- where no packet is left
-
-idles_join : (n m : ℕ) → idle_bytes n ++ idle_bytes m ≡ idle_bytes (n + m)
-idles_join zero m = ap idle_bytes (let e : m ≡ 0 + m = omega arith in e)
-idles_join (suc n) m =
-    append_assoc (core_header 0) (idle_bytes n) (idle_bytes m) ∙ ap (λ y. core_header 0 ++ y) (idles_join n m) ∙ ap idle_bytes (let e : suc (n + m) ≡ suc n + m = omega arith in e)
 
 -- nothing was emitted yet
 pub idles_none : (s : StreamState) → IdlesBy [] s s

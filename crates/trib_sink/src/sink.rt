@@ -184,7 +184,7 @@ impl TribSink {
 
     /// Takes this buffer, of exactly 15,233 bytes a slot, for the next bytes of its tributary, and gives its own in
     /// exchange, where nothing stands in that. The bytes of either are of no account. So a caller may have the next
-    /// bytes put where it read last, which is the most likely to be in the cache.
+    /// bytes put where it read last, and fewer buffers go round.
     pub fn swap_spare(&mut self, buffer: &mut Vec<u8>)
         requires room { vec_len buffer.old ≡ length self.old.slots.list * (GROUPS + 1) }
         ensures same { self.new ≡ self.old }
