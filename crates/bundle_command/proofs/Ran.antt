@@ -17,6 +17,7 @@ use Rattle.gfp_linear.proofs.Streams.{made_is}
 use Rattle.odu_client.specs.ClientFrames.{client_frames, frames_begun}
 use Rattle.odu_client.specs.ClientInput.{ClientInput}
 use Rattle.device_model.specs.LineAsked.{InputLeft}
+use Rattle.tributary_line.proofs.FeedTurns.{file_sent}
 use Rattle.tributary_line.specs.FeedTurn.{FeedStands, FeedView}
 use Rattle.tributary_line.specs.TributaryFile.{AreTributaryFrames}
 use Rattle.tributary_line.specs.Settling.{ended_by}
@@ -182,7 +183,7 @@ ran clients turns first last report told due left emitted count weaving feed end
               are_put = subst (λ ts. AreTributaryFrames first_slot ts (8 * turns) fed.has.puts) own (subst (λ n. AreTributaryFrames first_slot (parts_of due turns) (8 * n) fed.has.puts) (parts_many due turns) fed.has.are_put);
               are_frames = fed.has.made.are_frames;
             };
-            sent = fed.has.made.sent;
+            sent = file_sent first_slot _ _ _ _ fed;
           };
           tells = subst (λ t. Tells ended report t told) told_text (tells_of outcome);
           needed = λ c here.

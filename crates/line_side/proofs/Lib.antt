@@ -9,6 +9,7 @@ pub mod Moves
 pub mod Hunting
 pub mod LockedTurns
 pub mod Turns
+pub mod Waits
 pub mod TurnEnds
 pub mod Hands
 pub mod Standing

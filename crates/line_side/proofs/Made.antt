@@ -1,15 +1,13 @@
 -- A frame more of an output line.
-use Rattle.std.proofs.Common.{◌≡◌, ◌≢◌, ◌+◌, ◌-◌, ◌*◌, ◌^◌, min, ℕ, Bool, true, false, List, [], ◌∷◌, ◌++◌, length, take, drop, refl, sym, ap, ◌∙◌, arith, inl, inr, append-nil, append_assoc, length-append, subst}
+use Rattle.std.proofs.Common.{◌≡◌, ◌≢◌, ◌+◌, ◌-◌, ◌*◌, ◌^◌, ◌%◌, min, ℕ, Bool, true, false, List, [], ◌∷◌, ◌++◌, length, refl, sym, ap, ◌∙◌, arith, inl, inr, append-nil, append_assoc, length-append, subst}
 use Rattle.std.specs.List.{concat}
-use Rattle.std.proofs.lemmas.List.{length-set, length-take-le, take-append-drop, get_or-set_same, get_or-set_other}
+use Rattle.std.proofs.lemmas.List.{length-set, get_or-set_same, get_or-set_other}
 use Rattle.std.proofs.Math.Dec.{eqb}
 use Rattle.std.proofs.lemmas.Bool.Decides.{eqb_tells}
 use Rattle.otn_ports.specs.Views.{State, Empty, Live, Dead, OutView}
 use Rattle.otn_ports.specs.Given.{Gained}
-use Rattle.otn_ports.specs.Writes.{Writes as PlaceWrites, state_after_write}
-use Rattle.otn_ports.specs.declared.drain.Written.{Written}
-use Rattle.otn_ports.specs.declared.drain.Written.TheVariants as written
-use Rattle.otn_ports.proofs.GivenLaws.{GainedBy, gained_none, gained_twice, write_gained}
+use Rattle.otn_ports.specs.Sent.{IsSent}
+use Rattle.otn_ports.proofs.GivenLaws.{gained_none, gained_twice}
 use Rattle.line_side.proofs.Giving.{dead_not_live, empty_not_live}
 use Rattle.otn_base.specs.Counts.{saturated}
 use Rattle.std.specs.Prelude.{slice_set, ◌&&◌}
@@ -21,13 +19,12 @@ use Rattle.frame_overhead.specs.Runs.{IsPlace}
 use Rattle.frame_overhead.specs.TwoBefore.{HasSent, parity_due, or_zero}
 use Rattle.frame_overhead.proofs.Sent.{sent_as}
 use Rattle.msi_table.specs.Psi.{psi_of}
-use Rattle.multiframe.specs.LineTurns.{one_if}
 use Rattle.odu_path.specs.Path.{path_byte, IsOduFrame}
 use Rattle.otu_overhead.specs.Section.{otu_byte, IsOtuFrame}
 use Rattle.line_side.specs.LineForm.{LineForm, masked_from, through_mask}
 use Rattle.otn_base.specs.declared.line_kind.LineKind.{LineKind}
-use Rattle.line_side.specs.LineOutput.{FramePut, IsLineFrame, AreLineFrames, line_sapi, line_tti, psi_byte_at, LineOutView, LineMade, counted_frames}
-use Rattle.line_side.specs.Steps.LineOutput.{Writes}
+use Rattle.line_side.specs.LineOutput.{FramePut, IsLineFrame, AreLineFrames, line_sapi, line_tti, psi_byte_at, LineOutView, LineMade, counted_frames, counted_now}
+use Rattle.line_side.specs.Steps.LineOutput.{Joins}
 use Rattle.line_side.proofs.Masks.{length_through, through_append}
 
 dead_not_empty : Dead ≢ Empty
@@ -36,61 +33,6 @@ dead_not_empty e = cc
 concat_more : (made : List (List ℕ)) (frame : List ℕ) → concat (made ++ frame ∷ []) ≡ concat made ++ frame
 concat_more [] frame = append-nil frame
 concat_more (first ∷ made) frame = ap (λ xs. first ++ xs) (concat_more made frame) ∙ sym (append_assoc first (concat made) frame)
-
-live_writes : (answer : Written) (counts : Bool) (old new : OutView) (frame : List ℕ) → old.state ≡ Live → (counts ≡ true → answer ≡ written.Whole) → (counts ≡ false → answer ≡ written.Lost)
-    → new.state ≡ state_after_write Live answer → GainedBy answer old frame new → Writes counts old frame new
-live_writes written.Whole true old new frame live counted failed state (sent, gained, all) = record {
-  written = sent;
-  gained = gained;
-  whole = λ l _. (refl, all l);
-  part = λ _ other. absurd (other state);
-  empty = λ e. refl;
-  dead = λ e. absurd (dead_not_live (sym e ∙ live));
-}
-live_writes written.Whole false old new frame live counted failed state by = absurd (let e = failed refl in cc)
-live_writes written.Lost true old new frame live counted failed state by = absurd (let e = counted refl in cc)
-live_writes written.Lost false old new frame live counted failed state (n, less, gained) = record {
-  written = take n frame;
-  gained = gained;
-  whole = λ _ l. absurd (dead_not_live (sym state ∙ l));
-  part = λ _ _. (refl, (n, less, refl));
-  empty = λ e. absurd (empty_not_live (sym e ∙ live));
-  dead = λ e. refl;
-}
-
-empty_writes : (counts : Bool) (answer : Written) (old new : OutView) (frame : List ℕ) → old.state ≡ Empty → new ≡ old → answer ≡ written.Whole → (counts ≡ false → answer ≡ written.Lost)
-    → Writes counts old frame new
-empty_writes false answer old new frame empty same whole failed = absurd (let e = failed refl in cc)
-empty_writes true answer old new frame empty same whole failed = record {
-  written = [];
-  gained = rw same (gained_none old);
-  whole = λ l _. absurd (empty_not_live (sym empty ∙ l));
-  part = λ l _. absurd (empty_not_live (sym empty ∙ l));
-  empty = λ _. refl;
-  dead = λ d. absurd (dead_not_empty (sym d ∙ empty));
-}
-
--- what a write to a place that is not dead says of a frame
-pub writes_by : (answer : Written) (counts : Bool) (old new : OutView) (frame : List ℕ) → old.state ≢ Dead → (counts ≡ true → answer ≡ written.Whole) → (counts ≡ false → answer ≡ written.Lost)
-    → new.state ≡ state_after_write old.state answer → (old.state ≡ Live → PlaceWrites answer old frame new) → (old.state ≢ Live → (new ≡ old) × (answer ≡ written.Whole))
-    → Writes counts old frame new
-writes_by answer counts old new frame alive counted failed state live idle = by_state old.state refl
-  where
-    by_state : (s : State) → old.state ≡ s → Writes counts old frame new
-    by_state Live e = live_writes answer counts old new frame e counted failed (state ∙ ap (λ s. state_after_write s answer) e) (write_gained answer old new frame state live idle)
-    by_state Empty e = let h = idle (λ l. empty_not_live (sym e ∙ l)) in empty_writes counts answer old new frame e h.0 h.1 failed
-    by_state Dead e = absurd (alive e)
-
--- the place is dead
-pub writes_dead : (place : OutView) (frame : List ℕ) → place.state ≡ Dead → Writes false place frame place
-writes_dead place frame dead = record {
-  written = [];
-  gained = gained_none place;
-  whole = λ l _. absurd (dead_not_live (sym dead ∙ l));
-  part = λ l _. absurd (dead_not_live (sym dead ∙ l));
-  empty = λ e. absurd (dead_not_empty (sym dead ∙ e));
-  dead = λ _. refl;
-}
 
 -- ---- the frames of a line
 
@@ -125,85 +67,65 @@ still_live was is more gained live = elim gained.state [
   | inr died ↦ absurd (dead_not_live (sym died.1 ∙ live))
 ]
 
--- what of the bytes that were due, and of a frame more, is gone
-pub record SentMore (due sent more frame : List ℕ) (is : OutView) : Type 0 where
+-- what of the bytes that were due, and of those that are due then, is gone
+pub record SentMore (due sent more out : List ℕ) (is : OutView) : Type 0 where
   pub rest : List ℕ
-  pub parts : (sent ++ more) ++ rest ≡ due ++ frame
+  pub parts : (sent ++ more) ++ rest ≡ due ++ out
   pub whole : is.state ≡ Live → rest ≡ []
 
-parts_more : (counts : Bool) (was is : OutView) (due sent rest frame : List ℕ) (w : Writes counts was frame is) → (was.state ≡ Live → rest ≡ []) → sent ++ rest ≡ due → SentMore due sent w.written frame is
-parts_more counts was is due sent rest frame w whole parts = by_state was.state is.state refl refl
+parts_more : (was is : OutView) (due sent rest out : List ℕ) (k : IsSent was out is) → (was.state ≡ Live → rest ≡ []) → sent ++ rest ≡ due → SentMore due sent k.written out is
+parts_more was is due sent rest out k whole parts = by_state was.state refl
   where
     all : was.state ≡ Live → sent ≡ due
     all live = sym (append-nil sent) ∙ ap (λ r. sent ++ r) (sym (whole live)) ∙ parts
 
-    idle : was.state ≢ Live → SentMore due sent w.written frame is
+    idle : was.state ≢ Live → SentMore due sent k.written out is
     idle rests = record {
-      rest = rest ++ frame;
-      parts = ap (λ xs. (sent ++ xs) ++ (rest ++ frame)) (w.gained.idle rests).1 ∙ ap (λ xs. xs ++ (rest ++ frame)) (append-nil sent) ∙ sym (append_assoc sent rest frame) ∙ ap (λ xs. xs ++ frame) parts;
-      whole = λ live. absurd (rests (still_live was is w.written w.gained live));
+      rest = rest ++ out;
+      parts = ap (λ xs. (sent ++ xs) ++ (rest ++ out)) (k.gained.idle rests).1 ∙ ap (λ xs. xs ++ (rest ++ out)) (append-nil sent) ∙ sym (append_assoc sent rest out) ∙ ap (λ xs. xs ++ out) parts;
+      whole = λ live. absurd (rests (still_live was is k.written k.gained live));
     }
 
-    cut : was.state ≡ Live → is.state ≢ Live → SentMore due sent w.written frame is
-    cut live dead =
-        let (n, less, is_part) = (w.part live dead).1 in record {
-          rest = drop n frame;
-          parts = append_assoc sent w.written (drop n frame) ∙ ap (λ xs. sent ++ (xs ++ drop n frame)) is_part ∙ ap (λ xs. sent ++ xs) (take-append-drop n frame) ∙ ap (λ xs. xs ++ frame) (all live);
-          whole = λ l. absurd (dead l);
-        }
-
-    by_state : (s t : State) → was.state ≡ s → is.state ≡ t → SentMore due sent w.written frame is
-    by_state Empty t d f = idle (λ l. empty_not_live (sym d ∙ l))
-    by_state Dead t d f = idle (λ l. dead_not_live (sym d ∙ l))
-    by_state Live Empty d f = cut d (λ l. empty_not_live (sym f ∙ l))
-    by_state Live Dead d f = cut d (λ l. dead_not_live (sym f ∙ l))
-    by_state Live Live d f = record {
-      rest = [];
-      parts = append-nil (sent ++ w.written) ∙ ap (λ xs. sent ++ xs) (w.whole d f).1 ∙ ap (λ xs. xs ++ frame) (all d);
-      whole = λ _. refl;
+    by_state : (s : State) → was.state ≡ s → SentMore due sent k.written out is
+    by_state Empty d = idle (λ l. empty_not_live (sym d ∙ l))
+    by_state Dead d = idle (λ l. dead_not_live (sym d ∙ l))
+    by_state Live d = record {
+      rest = k.rest;
+      parts = append_assoc sent k.written k.rest ∙ ap (λ xs. sent ++ xs) k.parts ∙ ap (λ xs. xs ++ out) (all d);
+      whole = k.whole;
     }
 
 -- how many count
-counts_more : (counts : Bool) (first was is : OutView) (made : List (List ℕ)) (due sent frame one_more : List ℕ) (w : Writes counts was frame is) → Gained first sent was
-    → length due ≡ 16320 * length made → length frame ≡ 16320 → (was.state ≡ Live → sent ≡ due)
-    → counted_frames first.state (made ++ one_more ∷ []) (sent ++ w.written) ≡ counted_frames first.state made sent + one_if counts
-counts_more counts first was is made due sent frame one_more w gained size one whole = by_state first.state was.state is.state refl refl refl
+counts_more : (first was is : OutView) (made : List (List ℕ)) (m : ℕ) (due sent out one_more : List ℕ) (k : IsSent was out is) → Gained first sent was
+    → length due ≡ 16320 * m → (was.state ≡ Live → sent ≡ due)
+    → counted_frames first.state (made ++ one_more ∷ []) (sent ++ k.written) ≡ counted_frames first.state made sent + counted_now was.state k.written
+counts_more first was is made m due sent out one_more k gained size whole = by_state first.state was.state refl refl
   where
     Counts : Type 0
-    Counts = counted_frames first.state (made ++ one_more ∷ []) (sent ++ w.written) ≡ counted_frames first.state made sent + one_if counts
+    Counts = counted_frames first.state (made ++ one_more ∷ []) (sent ++ k.written) ≡ counted_frames first.state made sent + counted_now was.state k.written
 
-    all : length (sent ++ w.written) ≡ length sent + length w.written
-    all = length-append sent w.written
+    all : length (sent ++ k.written) ≡ length sent + length k.written
+    all = length-append sent k.written
 
     idle : (s : State) → first.state ≡ s → s ≢ Empty → was.state ≡ Dead → Counts
     idle Empty e other d = absurd (other refl)
-    idle Live e other d = let n = ap length (w.gained.idle (λ l. dead_not_live (sym d ∙ l))).1 in
-        rw (e, w.dead d) (let m : length (sent ++ w.written) ≡ length sent = omega (arith, all, n) in omega (arith, m))
-    idle Dead e other d = let n = ap length (w.gained.idle (λ l. dead_not_live (sym d ∙ l))).1 in
-        rw (e, w.dead d) (let m : length (sent ++ w.written) ≡ length sent = omega (arith, all, n) in omega (arith, m))
+    idle Live e other d = let n = ap length (k.gained.idle (λ l. dead_not_live (sym d ∙ l))).1 in
+        rw (e, d) (omega (arith, all, n))
+    idle Dead e other d = let n = ap length (k.gained.idle (λ l. dead_not_live (sym d ∙ l))).1 in
+        rw (e, d) (omega (arith, all, n))
 
-    cut : first.state ≡ Live → was.state ≡ Live → is.state ≢ Live → Counts
-    cut e d f =
-        let (n, less, is_part) = (w.part d f).1 in
-        let k : length w.written ≡ n = ap length is_part ∙ length-take-le n frame (omega (arith, less)) in
-        let m = ap length (whole d) in
-        rw (e, (w.part d f).0) (omega (arith, all, k, m, less, one, size))
-
-    by_state : (s t u : State) → first.state ≡ s → was.state ≡ t → is.state ≡ u → Counts
-    by_state Empty Empty u e d f = rw (e, w.empty d) (length-append made (one_more ∷ []))
-    by_state Live Empty u e d f = absurd (elim gained.state [ inl same ↦ empty_not_live (sym d ∙ same.0 ∙ e) | inr died ↦ dead_not_empty (sym died.1 ∙ d) ])
-    by_state Dead Empty u e d f = absurd (elim gained.state [ inl same ↦ dead_not_empty (sym e ∙ sym same.0 ∙ d) | inr died ↦ dead_not_empty (sym died.1 ∙ d) ])
-    by_state Empty Dead u e d f = absurd (elim gained.state [ inl same ↦ dead_not_empty (sym d ∙ same.0 ∙ e) | inr died ↦ empty_not_live (sym e ∙ died.0) ])
-    by_state Live Dead u e d f = idle Live e (λ x. empty_not_live (sym x)) d
-    by_state Dead Dead u e d f = idle Dead e dead_not_empty d
-    by_state Empty Live u e d f = absurd (elim gained.state [ inl same ↦ empty_not_live (sym e ∙ sym same.0 ∙ d) | inr died ↦ dead_not_live (sym died.1 ∙ d) ])
-    by_state Dead Live u e d f = absurd (elim gained.state [ inl same ↦ dead_not_live (sym e ∙ sym same.0 ∙ d) | inr died ↦ dead_not_live (sym died.1 ∙ d) ])
-    by_state Live Live Empty e d f = cut e d (λ l. empty_not_live (sym f ∙ l))
-    by_state Live Live Dead e d f = cut e d (λ l. dead_not_live (sym f ∙ l))
-    by_state Live Live Live e d f =
-        let k = ap length (w.whole d f).1 in
-        let m = ap length (whole d) in
-        rw (e, (w.whole d f).0) (omega (arith, all, k, m, one, size))
+    by_state : (s t : State) → first.state ≡ s → was.state ≡ t → Counts
+    by_state Empty Empty e d = rw (e, d) (length-append made (one_more ∷ []))
+    by_state Live Empty e d = absurd (elim gained.state [ inl same ↦ empty_not_live (sym d ∙ same.0 ∙ e) | inr died ↦ dead_not_empty (sym died.1 ∙ d) ])
+    by_state Dead Empty e d = absurd (elim gained.state [ inl same ↦ dead_not_empty (sym e ∙ sym same.0 ∙ d) | inr died ↦ dead_not_empty (sym died.1 ∙ d) ])
+    by_state Empty Dead e d = absurd (elim gained.state [ inl same ↦ dead_not_empty (sym d ∙ same.0 ∙ e) | inr died ↦ empty_not_live (sym e ∙ died.0) ])
+    by_state Live Dead e d = idle Live e (λ x. empty_not_live (sym x)) d
+    by_state Dead Dead e d = idle Dead e dead_not_empty d
+    by_state Empty Live e d = absurd (elim gained.state [ inl same ↦ empty_not_live (sym e ∙ sym same.0 ∙ d) | inr died ↦ dead_not_live (sym died.1 ∙ d) ])
+    by_state Dead Live e d = absurd (elim gained.state [ inl same ↦ dead_not_live (sym e ∙ sym same.0 ∙ d) | inr died ↦ dead_not_live (sym died.1 ∙ d) ])
+    by_state Live Live e d =
+        let n = ap length (whole d) in
+        rw (e, d) (omega (arith, all, n, size))
 
 stopped_more : (a b : ℕ) → min (min a (2 ^ 64 - 1) + b) (2 ^ 64 - 1) ≡ min (a + b) (2 ^ 64 - 1)
 stopped_more a b = omega arith
@@ -228,27 +150,35 @@ set_psi ports frame mfas row col size place =
       | inr r ↦ apart (λ k _. absurd (r.1 k)) ∙ sym (ap (λ b. cond (b && eqb col 15) v put) r.0)
     ]
 
+-- so many frames are due, where all but those that wait are
+due_frames : (made over : ℕ) (due waiting all : List ℕ) → due ++ waiting ≡ all → length all ≡ 16320 * made → length waiting ≡ 16320 * over → length due ≡ 16320 * (made - over)
+due_frames made over due waiting all parts size few =
+    let whole = sym (length-append due waiting) ∙ ap length parts in
+    omega (arith, whole, size, few)
+
 -- what `finish` has made
-pub made_more : (n : ℕ) (form : LineForm) (put : FramePut) (first was is : OutView) (puts : List FramePut) (old new : LineOutView) (set pathed frame sent : List ℕ) (counts : Bool)
+pub made_more : (n : ℕ) (form : LineForm) (put : FramePut) (first was is : OutView) (puts : List FramePut) (old new : LineOutView) (set pathed frame sent : List ℕ) (counts : ℕ)
     → put.bytes ≡ old.frame → set ≡ slice_set old.frame (place_of 4080 4 15) (psi_of put.ports put.mfas)
     → ((made : List (List ℕ)) → HasSent 4080 made old.path → IsOduFrame 4080 old.sapi put.mfas (or_zero (parity_due 4080 made)) set pathed)
     → ((made : List (List ℕ)) → HasSent 4080 made old.path → HasSent 4080 (made ++ pathed ∷ []) new.path)
     → ((made : List (List ℕ)) → HasSent 4080 made old.section → IsOtuFrame old.sapi put.mfas (or_zero (parity_due 4080 made)) pathed frame)
     → ((made : List (List ℕ)) → HasSent 4080 made old.section → HasSent 4080 (made ++ frame ∷ []) new.section)
     → parity_of 4080 pathed ≡ parity_of 4080 frame → sent ≡ through_mask old.form.scrambled frame → length sent ≡ 16320
-    → Writes counts was sent is → new.frames ≡ saturated (old.frames + one_if counts) → new.sapi ≡ old.sapi → new.form ≡ old.form
+    → Joins old.waiting was sent new.waiting is counts → new.frames ≡ saturated (old.frames + counts) → new.sapi ≡ old.sapi → new.form ≡ old.form
     → LineMade n form first was puts old → LineMade n form first is (puts ++ put ∷ []) new
-made_more n form put first was is puts old new set pathed frame sent counts here set_is path path_sent section section_sent same masked sized w frames sapi kept h =
+made_more n form put first was is puts old new set pathed frame sent counts here set_is path path_sent section section_sent same masked sized j frames sapi kept h =
     let pm = rw h.sapi at (path h.made h.path) in
     let sm = rw h.sapi at (section h.made h.section) in
     let wide : length frame ≡ 16320 = sym (length_through old.form.scrambled frame) ∙ sym (ap length masked) ∙ sized in
     let size : length old.frame ≡ 16320 = sym (length-set old.frame (place_of 4080 4 15) (psi_of put.ports put.mfas)) ∙ sym (ap length set_is) ∙ sym pm.size ∙ sym sm.size ∙ wide in
     let scrambled : sent ≡ through_mask form.scrambled frame = masked ∙ ap (λ (f : LineForm). through_mask f.scrambled frame) h.is_form in
-    let due = through_mask form.scrambled (concat h.made) in
+    let file = through_mask form.scrambled (concat h.made) in
     let count = frames_size n [] puts h.made h.are_frames in
-    let long : length due ≡ 16320 * length h.made = length_through form.scrambled (concat h.made) ∙ count in
-    let more = parts_more counts was is due h.sent.written h.sent.rest sent w h.sent.whole h.sent.parts in
-    let all : was.state ≡ Live → h.sent.written ≡ due = λ live. sym (append-nil h.sent.written) ∙ ap (λ r. h.sent.written ++ r) (sym (h.sent.whole live)) ∙ h.sent.parts in
+    let long : length file ≡ 16320 * length h.made = length_through form.scrambled (concat h.made) ∙ count in
+    let due = due_frames (length h.made) (length puts % 8) h.due old.waiting file h.parts long h.over in
+    let gone = j.leaves.sent in
+    let more = parts_more was is h.due h.sent.written h.sent.rest j.due gone h.sent.whole h.sent.parts in
+    let all : was.state ≡ Live → h.sent.written ≡ h.due = λ live. sym (append-nil h.sent.written) ∙ ap (λ r. h.sent.written ++ r) (sym (h.sent.whole live)) ∙ h.sent.parts in
     record {
       is_form = kept ∙ h.is_form;
       made = h.made ++ frame ∷ [];
@@ -261,15 +191,20 @@ made_more n form put first was is puts old new set pathed frame sent counts here
             (ap (λ frame. get_or frame (place_of 4080 row col) 0) set_is ∙ set_psi put.ports old.frame put.mfas row col size place
             ∙ ap (λ bytes. psi_byte_at put.ports put.mfas row col (get_or bytes (place_of 4080 row col) 0)) (sym here)));
       });
+      due = h.due ++ j.due;
+      parts = append_assoc h.due j.due new.waiting ∙ ap (λ xs. h.due ++ xs) j.parts ∙ sym (append_assoc h.due old.waiting sent) ∙ ap (λ xs. xs ++ sent) h.parts
+          ∙ ap (λ xs. file ++ xs) scrambled ∙ sym (file_more form.scrambled h.made frame count);
+      over = j.over (length puts) h.over ∙ ap (λ k. 16320 * (k % 8)) (sym (length-append puts (put ∷ [])));
       sent = record {
-        written = h.sent.written ++ w.written;
+        written = h.sent.written ++ gone.written;
         rest = more.rest;
-        parts = more.parts ∙ ap (λ xs. due ++ xs) scrambled ∙ sym (file_more form.scrambled h.made frame count);
-        gained = gained_twice first was is h.sent.written w.written h.sent.gained w.gained;
+        parts = more.parts;
+        gained = gained_twice first was is h.sent.written gone.written h.sent.gained gone.gained;
         whole = more.whole;
       };
-      frames = frames ∙ ap (λ k. saturated (k + one_if counts)) h.frames ∙ stopped_more (counted_frames first.state h.made h.sent.written) (one_if counts)
-          ∙ sym (ap saturated (counts_more counts first was is h.made due h.sent.written sent frame w h.sent.gained long sized all));
+      frames = frames ∙ ap (λ k. saturated (k + counts)) h.frames ∙ stopped_more (counted_frames first.state h.made h.sent.written) counts
+          ∙ ap (λ k. saturated (counted_frames first.state h.made h.sent.written + k)) j.leaves.counted
+          ∙ sym (ap saturated (counts_more first was is h.made (length h.made - length puts % 8) h.due h.sent.written j.due frame gone h.sent.gained due all));
       sapi = sapi ∙ h.sapi;
       section = section_sent h.made h.section;
       path = sent_as 4080 h.made pathed frame new.path same (path_sent h.made h.path);
@@ -287,17 +222,31 @@ nothing false = refl
 
 -- a line that has made no frame
 pub new_made : (n : ℕ) (kind : LineKind) (scrambled : Bool) (mask : Bool) (first : OutView) (line : LineOutView) → line.form ≡ record { kind = kind; scrambled = mask } → mask ≡ scrambled → line.sapi ≡ line_sapi n
-    → HasSent 4080 [] line.section → HasSent 4080 [] line.path → line.frames ≡ 0 → LineMade n (record { kind = kind; scrambled = scrambled }) first first [] line
-new_made n kind scrambled mask first line form same sapi section path frames = record {
+    → HasSent 4080 [] line.section → HasSent 4080 [] line.path → line.waiting ≡ [] → line.frames ≡ 0 → LineMade n (record { kind = kind; scrambled = scrambled }) first first [] line
+new_made n kind scrambled mask first line form same sapi section path waiting frames = record {
   is_form = form ∙ (let of_mask : Bool → LineForm = λ s. record { kind = kind; scrambled = s } in ap of_mask same);
   made = [];
   are_frames = tt;
-  sent = record { written = []; rest = []; parts = nothing scrambled; gained = gained_none first; whole = λ _. refl };
+  due = [];
+  parts = waiting ∙ nothing scrambled;
+  over = ap length waiting;
+  sent = record { written = []; rest = []; parts = refl; gained = gained_none first; whole = λ _. refl };
   frames = frames ∙ none_count first.state;
   sapi = sapi;
   section = section;
   path = path;
 }
+
+no_length : (xs : List ℕ) → length xs ≡ 0 → xs ≡ []
+no_length [] e = refl
+no_length (x ∷ xs) e = cc
+
+-- behind frames of which none is over, the whole file was due
+pub all_due : (n : ℕ) (form : LineForm) (first now : OutView) (puts : List FramePut) (line : LineOutView) → (h : LineMade n form first now puts line) → length puts % 8 ≡ 0
+    → h.due ≡ through_mask form.scrambled (concat h.made)
+all_due n form first now puts line h none =
+    let nothing_waits : line.waiting ≡ [] = no_length line.waiting (h.over ∙ ap (λ k. 16320 * k) none) in
+    sym (append-nil h.due) ∙ ap (λ xs. h.due ++ xs) (sym nothing_waits) ∙ h.parts
 
 -- the PSI byte is no byte of the payload
 pub psi_beside_payload : (frame set : List ℕ) (byte : ℕ) → set ≡ slice_set frame (place_of 4080 4 15) byte → length set ≡ 16320 → payload_parity_of 4080 set ≡ payload_parity_of 4080 frame

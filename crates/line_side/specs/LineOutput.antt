@@ -1,10 +1,11 @@
 -- Believed: the frames of a line that is put out, and its file.
-use Rattle.std.specs.Prelude.{◌≡◌, ℕ, ◌+◌, ◌/◌, ◌%◌, ◌==◌, ◌&&◌, Bool, true, false, if◌then◌else◌, List, [], ◌∷◌, ◌++◌, length, slice_index, ⊤}
+use Rattle.std.specs.Prelude.{◌≡◌, ℕ, ◌+◌, ◌*◌, ◌/◌, ◌%◌, ◌==◌, ◌&&◌, if◌then◌else◌, List, [], ◌∷◌, ◌++◌, length, slice_index, ⊤}
 use Rattle.std.specs.List.{concat}
 use Rattle.otn_base.specs.TrailTrace.{trail_trace}
 use Rattle.otn_base.specs.declared.limits.TheConstants.{LINE_COLUMNS, LINE_FRAME_BYTES}
+use Rattle.otn_ports.specs.Given.{Gained}
 use Rattle.otn_ports.specs.Sent.{IsSent}
-use Rattle.otn_ports.specs.Views.{State, Empty, Live, Dead, OutView}
+use Rattle.otn_ports.specs.Views.{State, Empty, OutView}
 use Rattle.frame_geometry.specs.declared.overhead.TheConstants.{PSI_ROW, PSI_COLUMN}
 use Rattle.frame_overhead.specs.Runs.{IsPlace, byte_of}
 use Rattle.frame_overhead.specs.TwoBefore.{Kept, HasSent, parity_due, or_zero}
@@ -12,6 +13,7 @@ use Rattle.msi_table.specs.Psi.{psi_of}
 use Rattle.odu_path.specs.Path.{path_byte}
 use Rattle.otu_overhead.specs.Section.{otu_byte}
 use Rattle.line_side.specs.LineForm.{LineForm, through_mask}
+use Rattle.line_side.specs.declared.waiting.TheConstants.{FRAMES_TOGETHER}
 use Rattle.otn_base.specs.Counts.{saturated}
 
 -- G.709 clause 15.2: the source access point identifier of line n, 0 to 3, in SM and PM, which is LINE-n, and its trail
@@ -55,14 +57,15 @@ AreLineFrames n before (put ∷ puts) (frame ∷ frames) = IsLineFrame n
     (or_zero (parity_due LINE_COLUMNS before)) put frame × AreLineFrames n (before ++ frame ∷ []) puts frames
 AreLineFrames n before puts frames = ⊥
 
--- what is seen of an output line: what is fixed of it, its identifier, the frame to come, what its writers keep, and
--- how many frames count
+-- what is seen of an output line: what is fixed of it, its identifier, the frame to come, what its writers keep, the
+-- bytes of the frames that wait to be written, and how many frames count
 pub record LineOutView : Type 0 where
   pub form : LineForm
   pub sapi : List ℕ
   pub frame : List ℕ
   pub section : Kept
   pub path : Kept
+  pub waiting : List ℕ
   pub frames : ℕ
 
 -- how many frames count of those that were made: all on an empty place, else those that went out whole
@@ -70,23 +73,30 @@ abbrev pub counted_frames : State → (made : List (List ℕ)) → (written : Li
 counted_frames Empty made written = length made
 counted_frames other made written = length written / LINE_FRAME_BYTES
 
--- whether a frame counts, by how its place stood before and after it was written: it was made on an empty place, or
+-- how many frames a call counts that made one, by what went out in it: on an empty place that one, else those that
 -- went out whole
-abbrev pub frame_counts : (was is : State) → Bool
-frame_counts Empty is = true
-frame_counts Live Live = true
-frame_counts Live Empty = false
-frame_counts Live Dead = false
-frame_counts Dead is = false
+abbrev pub counted_now : State → (written : List ℕ) → ℕ
+counted_now Empty written = 1
+counted_now other written = length written / LINE_FRAME_BYTES
 
--- Line n of this form has made the frames in which these were put. `first` and `now` are views of its place: between
--- them the line's file was due to it, which is these frames, through the mask where the line is scrambled.
+-- a call that made a frame has counted so many more
+pub record CountsFrames (was is : OutView) (before after : ℕ) : Type 0 where
+  pub written : List ℕ
+  pub gained : Gained was written is
+  pub counted : after ≡ saturated (before + counted_now was.state written)
+
+-- Line n of this form has made the frames in which these were put. The line's file is these frames, through the mask
+-- where the line is scrambled. `first` and `now` are views of its place: between them the file was due to it, but for
+-- the frames that wait. Frames leave by eight, so those wait that are over.
 pub record LineMade (n : ℕ) (form : LineForm) (first now : OutView) (puts : List FramePut)
     (line : LineOutView) : Type 0 where
   pub is_form : line.form ≡ form
   pub made : List (List ℕ)
   pub are_frames : AreLineFrames n [] puts made
-  pub sent : IsSent first (through_mask form.scrambled (concat made)) now
+  pub due : List ℕ
+  pub parts : due ++ line.waiting ≡ through_mask form.scrambled (concat made)
+  pub over : length line.waiting ≡ LINE_FRAME_BYTES * (length puts % FRAMES_TOGETHER)
+  pub sent : IsSent first due now
   pub frames : line.frames ≡ saturated (counted_frames first.state made sent.written)
   pub sapi : line.sapi ≡ line_sapi n
   pub section : HasSent LINE_COLUMNS made line.section

@@ -1,6 +1,6 @@
 //! The sides of a line of either kind, plain or scrambled. `LineIn` reads one: it finds the multiframes of its frames,
-//! one turn each. `UncountedLineIn` does the same and checks no overhead, so it has no numbers of it. `LineOut` writes
-//! a line, frame by frame.
+//! one turn each. `UncountedLineIn` does the same and checks no overhead, so it has no numbers of it. `LineOut` makes
+//! a line, frame by frame, and writes it by eight frames.
 #![tactic(auto)]
 
 mod checks;
@@ -12,6 +12,7 @@ mod line_out;
 mod mask;
 mod reader;
 mod tried;
+mod waiting;
 
 pub use counts::LineCounts;
 pub use laws::{

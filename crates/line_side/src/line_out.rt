@@ -1,13 +1,13 @@
 // An output line: it gives a frame to be filled, adds the overhead and writes it.
-ghost use Rattle.std.specs.Prelude.{◌≡◌, ◌≢◌, ◌<◌, ◌+◌, ◌++◌, ◌∷◌, ℕ, List, [], IfOk, length, slice_index};
+ghost use Rattle.std.specs.Prelude.{◌≡◌, ◌≢◌, ◌<◌, ◌++◌, ◌∷◌, ℕ, List, [], IfOk, length, slice_index};
 ghost use Rattle.otn_base.specs.declared.limits.TheConstants.{LINE_COLUMNS, LINE_FRAME_BYTES as FRAME_BYTES};
 ghost use Rattle.frame_geometry.specs.PayloadParity.{payload_parity_of};
 ghost use Rattle.otn_ports.specs.OutPlace.{out_view};
 ghost use Rattle.otn_ports.specs.Views.{OutView, Live};
-ghost use Rattle.multiframe.specs.LineTurns.{one_if as one_of};
-ghost use Rattle.line_side.specs.LineOutput.{frame_counts};
+ghost use Rattle.line_side.specs.LineOutput.{CountsFrames};
 
 use crate::mask::LineMask;
+use crate::waiting::Waiting;
 use frame_geometry::Frame;
 use frame_geometry::overhead::{PSI_COLUMN, PSI_ROW};
 use frame_overhead::{parity_with, payload_parity};
@@ -15,13 +15,14 @@ use msi_table::{SlotMap, psi_byte};
 use odu_path::PathWriter;
 use otn_base::limits::{LINE_COLUMNS, LINE_FRAME_BYTES};
 use otn_base::{LineKind, Memory, Trace};
-use otn_ports::{OutPlaceOf, Sink, Written, is_dead_out};
+use otn_ports::{OutPlaceOf, Sink};
 use otu_overhead::OtuWriter;
 use std::alloc::Global;
 use std::marker::Model;
 
 /// An output line of a node, of either kind, plain or scrambled. Each of its frames is put into the frame that `begin`
-/// or `begin_whole` gives, and written by `finish`.
+/// or `begin_whole` gives, and made by `finish`. Eight of them are written together: up to then they wait, and behind
+/// whole turns none does.
 #[derive(Drop)]
 pub struct LineOut {
     kind: LineKind,
@@ -30,6 +31,7 @@ pub struct LineOut {
     frame: Frame<LINE_COLUMNS>,
     section: OtuWriter,
     path: PathWriter,
+    waiting: Waiting,
     frames: u64,
 }
 
@@ -38,7 +40,7 @@ impl Model for LineOut {
 
     ghost Value = { LineOutView };
 
-    ghost view = { λ l. record { form = record { kind = l.kind; scrambled = l.mask }; sapi = l.trace; frame = l.frame; section = l.section; path = l.path; frames = l.frames } };
+    ghost view = { λ l. record { form = record { kind = l.kind; scrambled = l.mask }; sapi = l.trace; frame = l.frame; section = l.section; path = l.path; waiting = l.waiting; frames = l.frames } };
 }
 
 impl LineOut {
@@ -46,7 +48,6 @@ impl LineOut {
     ghost use Rattle.line_side.specs.contracts.line_out.LineOut.{the_row};
     ghost use Rattle.line_side.specs.FrameType.{line_frame};
     ghost use Rattle.line_side.specs.LineOutput.{LineMade, AsMade};
-    ghost use Rattle.otn_base.specs.Counts.{saturated};
     ghost use Rattle.otn_ports.specs.Given.{Gained};
 
     /// Output line n, 0 to 3, of this kind, scrambled or plain, before its first frame.
@@ -62,6 +63,7 @@ impl LineOut {
             frame: Frame::new(alloc)?,
             section: OtuWriter::new(),
             path: PathWriter::new(),
+            waiting: Waiting::new(alloc)?,
             frames: 0,
         })
     }
@@ -101,9 +103,9 @@ impl LineOut {
         payload_parity(&self.frame)
     }
 
-    /// Adds the overhead to the frame, which has this MFAS on a line whose slots are used so, and writes it through the
-    /// line's mask. The MSI bytes are those of the map's slots; no clause asks that the map be of the line's `kind`:
-    /// the caller sees to it.
+    /// Adds the overhead to the frame, which has this MFAS on a line whose slots are used so, and puts it through the
+    /// line's mask. Where it is the eighth that waits, all eight are written. The MSI bytes are those of the map's
+    /// slots; no clause asks that the map be of the line's `kind`: the caller sees to it.
     pub fn finish<K: Sink>(&mut self, mfas: u8, map: &SlotMap, place: &mut OutPlaceOf<K>)
         ensures made { (n : ℕ) → AsMade n (out_view K.Sink place.old) self.old
             (λ form first puts. LineMade n form first (out_view K.Sink place.new) (puts ++ record { mfas = mfas; ports = map.now; bytes = self.old.frame } ∷ []) self.new) }
@@ -112,9 +114,8 @@ impl LineOut {
         // bytes go to a live place, which may die of its own port's fault, and any other place is asked nothing
         ensures gained { (written : List ℕ) × Gained (out_view K.Sink place.old) written (out_view K.Sink place.new) }
         ensures quiet { (out_view K.Sink place.old).state ≢ Live → place.new ≡ place.old }
-        ensures frames { self.new.frames ≡ saturated
-            (self.old.frames + one_of (frame_counts (out_view K.Sink place.old).state
-            (out_view K.Sink place.new).state)) }
+        ensures frames { CountsFrames (out_view K.Sink place.old) (out_view K.Sink place.new) self.old.frames
+            self.new.frames }
     {
         let payload = self.payload_parity();
         self.finish_with(mfas, map, payload, place);
@@ -136,9 +137,8 @@ impl LineOut {
         // bytes go to a live place, which may die of its own port's fault, and any other place is asked nothing
         ensures gained { (written : List ℕ) × Gained (out_view K.Sink place.old) written (out_view K.Sink place.new) }
         ensures quiet { (out_view K.Sink place.old).state ≢ Live → place.new ≡ place.old }
-        ensures frames { self.new.frames ≡ saturated
-            (self.old.frames + one_of (frame_counts (out_view K.Sink place.old).state
-            (out_view K.Sink place.new).state)) }
+        ensures frames { CountsFrames (out_view K.Sink place.old) (out_view K.Sink place.new) self.old.frames
+            self.new.frames }
     {
         self.frame.set(PSI_ROW, PSI_COLUMN, psi_byte(mfas, map));
         let parity = parity_with(&self.frame, payload);
@@ -147,8 +147,8 @@ impl LineOut {
         self.section
             .write_with(&mut self.frame, mfas, &self.trace, parity);
         self.mask.apply(&mut self.frame);
-        let counts = send(place, self.frame.as_bytes());
-        self.frames = self.frames.saturating_add(one_if(counts));
+        let counts = self.waiting.join(self.frame.as_bytes(), place);
+        self.frames = self.frames.saturating_add(counts as u64);
     }
 
     /// How many frames were written whole or, on an empty place, made. The count stops at 2^64-1.
@@ -160,7 +160,6 @@ impl LineOut {
 }
 
 ghost use Rattle.line_side.specs.LineOutput.{line_sapi};
-ghost use Rattle.line_side.specs.Steps.LineOutput.{Writes};
 
 // The trace of line n.
 fn trace_of(line: u8) -> Trace
@@ -171,34 +170,4 @@ fn trace_of(line: u8) -> Trace
         Some(trace) => trace,
         None => unreachable!(),
     }
-}
-
-// Writes a frame, and says whether it counts: it went out whole, or the place is empty.
-fn send<K: Sink>(place: &mut OutPlaceOf<K>, frame: &[u8]) -> bool
-    ensures writes { Writes result (out_view K.Sink place.old) frame.now (out_view K.Sink place.new) }
-    ensures counts { result ≡ frame_counts (out_view K.Sink place.old).state (out_view K.Sink place.new).state }
-    ensures quiet { (out_view K.Sink place.old).state ≢ Live → place.new ≡ place.old }
-{
-    if is_dead_out(place) {
-        return false;
-    }
-    is_whole(place.write_all(frame))
-}
-
-ghost use Rattle.std.specs.Prelude.{true, false};
-
-fn is_whole(written: Written) -> bool
-    ensures whole { result ≡ true → written ≡ Written.Whole }
-    ensures lost { result ≡ false → written ≡ Written.Lost }
-{
-    match written {
-        Written::Whole => true,
-        Written::Lost => false,
-    }
-}
-
-fn one_if(counts: bool) -> u64
-    ensures { result ≡ one_of counts }
-{
-    if counts { 1 } else { 0 }
 }

@@ -232,7 +232,7 @@ fn at(bytes: &[u8], place: usize) -> u8 {
     }
 }
 
-// Writes so many frames of line 2, each with one byte in its FEC columns, to a sink with this room. Says what the sink
+// Makes so many frames of line 2, each with one byte in its FEC columns, for a sink with this room. Says what the sink
 // got, and how many frames count.
 fn written(
     alloc: Global,
@@ -267,8 +267,9 @@ fn frames_of_a_free_line(rt: HostRuntime) -> Result<(), Fail> {
     let alloc = rt.alloc();
     for kind in [LineKind::Otu2, LineKind::Otu3] {
         let (bytes, frames) = written(alloc, 9, 200_000, &SlotMap::new(kind), kind, false)?;
-        assert_eq!(rt; frames, 9);
-        assert_eq!(rt; bytes.len(), 9 * LINE_FRAME_BYTES);
+        // the ninth waits for seven more
+        assert_eq!(rt; frames, 8);
+        assert_eq!(rt; bytes.len(), 8 * LINE_FRAME_BYTES);
         for (frame, tti, bip) in [
             (0_usize, 0_u8, 0_u8),
             (1, b'L', 0),
@@ -321,9 +322,16 @@ fn a_line_that_dies(rt: HostRuntime) -> Result<(), Fail> {
     let mut map = SlotMap::new(kind);
     let slots = Slots::new(&[1, 2, 8], kind).ok_or("three slots that rise")?;
     map.allot(&slots, 2);
-    let (bytes, frames) = written(alloc, 4, 2 * LINE_FRAME_BYTES + 7, &map, kind, false)?;
-    assert_eq!(rt; frames, 2);
-    assert_eq!(rt; bytes.len(), 2 * LINE_FRAME_BYTES + 7);
-    assert_eq!(rt; at(&bytes, 12254), 0x21, "PSI[0]");
+    for (made, room, whole) in [
+        (8_u8, 2 * LINE_FRAME_BYTES + 7, 2_u64),
+        (16, 2 * LINE_FRAME_BYTES + 7, 2),
+        (16, 10 * LINE_FRAME_BYTES, 10),
+        (24, 15 * LINE_FRAME_BYTES + 1, 15),
+    ] {
+        let (bytes, frames) = written(alloc, made, room, &map, kind, false)?;
+        assert_eq!(rt; frames, whole);
+        assert_eq!(rt; bytes.len(), room);
+        assert_eq!(rt; at(&bytes, 12254), 0x21, "PSI[0]");
+    }
     Ok(())
 }

@@ -1,6 +1,7 @@
 // What proofs can't see: that calls succeed, and what the system does.
 ghost use Rattle.std.specs.Prelude.{◌≤◌, IfOk};
 
+use otn_base::limits::LINE_FRAME_BYTES;
 use otn_ports::{
     Bays, Chooser, Failed, FileSink, FileSource, FirstReady, InPlace, InPlaceOf, InPort,
     ListedSink, ListedSource, MemSink, MemSource, OutPlace, OutPlaceOf, OutPort, ReaderSource,
@@ -373,6 +374,37 @@ fn a_writer_takes_all_lines_at_once(rt: HostRuntime) -> Result<(), Fail> {
     let sink: Box<dyn Sink> = Box::new(alloc, WriterSink::over(writer))?;
     let mut place = OutPlace::Live(OutPort::Boxed(sink), 0);
     assert_eq!(rt; place.write_lines(LINES), (Written::Whole, 16));
+    assert_eq!(rt; calls.get(), 1);
+    Ok(())
+}
+
+#[test]
+fn each_frame_is_written_for_itself(rt: HostRuntime) -> Result<(), Fail> {
+    let alloc = rt.alloc();
+    let sink = ListedSink::with_room(alloc, 99_999, [3_u32].to_vec(alloc)?)?;
+    let mut place = OutPlaceOf::Live(sink, 0);
+    let frames = vec![in alloc; 0u8; 4 * LINE_FRAME_BYTES]?;
+    assert_eq!(rt;
+        place.write_frames(&frames),
+        (Written::Lost, 2 * LINE_FRAME_BYTES)
+    );
+    assert_eq!(rt; place.write_frames(&frames), (Written::Whole, 0));
+    Ok(())
+}
+
+#[test]
+fn a_writer_takes_all_frames_at_once(rt: HostRuntime) -> Result<(), Fail> {
+    let alloc = rt.alloc();
+    let calls = Rc::new(alloc, Cell::new(0_u32))?;
+    let writer = CountedWriter {
+        calls: calls.clone()?,
+    };
+    let mut place = OutPlaceOf::Live(WriterSink::over(writer), 0);
+    let frames = vec![in alloc; 0u8; 8 * LINE_FRAME_BYTES]?;
+    assert_eq!(rt;
+        place.write_frames(&frames),
+        (Written::Whole, 8 * LINE_FRAME_BYTES)
+    );
     assert_eq!(rt; calls.get(), 1);
     Ok(())
 }

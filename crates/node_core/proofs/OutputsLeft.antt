@@ -1,13 +1,17 @@
 -- What went to the outputs of a node that is past its last turn: all that was due to them.
-use Rattle.std.proofs.Common.{◌≡◌, ◌<◌, ◌≤◌, ◌+◌, ◌*◌, ℕ, Bool, true, false, List, [], Some, length, slice_get, arith, refl, sym, ap, subst, ◌∙◌, inl, inr}
+use Rattle.std.proofs.Common.{◌≡◌, ◌<◌, ◌≤◌, ◌+◌, ◌*◌, ◌%◌, ℕ, Bool, true, false, List, [], Some, length, slice_get, arith, refl, sym, ap, subst, ◌∙◌, inl, inr}
 use Rattle.std.specs.List.{Contains, concat}
 use Rattle.std.proofs.lemmas.Bool.Decides.{nat_tests}
 use Rattle.otn_base.specs.declared.kind.PortName.TheVariants as port
+use Rattle.otn_base.specs.LineSlots.{slots_of}
 use Rattle.otn_base.specs.declared.limits.TheConstants.{LINES}
+use Rattle.otn_base.specs.declared.line_kind.LineKind.{LineKind}
+use Rattle.otn_base.specs.declared.line_kind.LineKind.TheVariants as kinds
 use Rattle.otn_ports.specs.Sent.{IsSent}
 use Rattle.otn_ports.specs.Views.{OutView, BaysView, line_out_at, client_out_at}
 use Rattle.line_side.specs.LineForm.{size_of, through_mask}
 use Rattle.line_side.specs.LineOutput.{LineOutView, FramePut, LineMade, counted_frames}
+use Rattle.line_side.proofs.Made.{all_due}
 use Rattle.otn_base.specs.Counts.{saturated}
 use Rattle.odu_client.specs.ClientOutput.{arriving_packets, arriving_frames}
 use Rattle.plan_file.specs.declared.connection.Connection.{Connection}
@@ -73,6 +77,19 @@ line_at_end plan first read node now inputs lines h over may b used =
       made = stood.2;
     }
 
+-- so many frames are whole multiframes
+whole_turns : (plan : Plan) (b turns : ℕ) → (size_of (form_out plan b) * turns) % 8 ≡ 0
+whole_turns plan b turns = of_kind (form_out plan b).kind turns
+  where
+    of_kind : (kind : LineKind) (turns : ℕ) → (slots_of kind * turns) % 8 ≡ 0
+    of_kind kinds.Otu2 turns = omega arith
+    of_kind kinds.Otu3 turns = omega arith
+
+-- behind the last turn the whole file was due
+all_gone : (plan : Plan) (inputs : Inputs) (b : ℕ) (first now : OutView) (node : NodeView) → (l : LineAtEnd plan inputs b first now node) → l.made.due ≡ through_mask (form_out plan b).scrambled (concat l.made.made)
+all_gone plan inputs b first now node l =
+    all_due b (form_out plan b) first now l.puts l.line l.made (ap (λ n. n % 8) l.frames.many ∙ whole_turns plan b plan.turns)
+
 line_left : (plan : Plan) (inputs : Inputs) (b : ℕ) (first now : OutView) (node : NodeView) → (l : LineAtEnd plan inputs b first now node) → LineOutLeft plan inputs b first l.made.sent.written now
 line_left plan inputs b first now node l = record {
   due = through_mask (form_out plan b).scrambled (concat l.made.made);
@@ -81,7 +98,12 @@ line_left plan inputs b first now node l = record {
     file = record { puts = l.puts; are_put = subst (λ n. AreFramesOf plan inputs b n l.puts) (omega arith) l.frames; are_frames = l.made.are_frames };
     bytes = refl;
   };
-  left = left_of first (through_mask (form_out plan b).scrambled (concat l.made.made)) now l.made.sent;
+  left = record {
+    rest = l.made.sent.rest;
+    parts = l.made.sent.parts ∙ all_gone plan inputs b first now node l;
+    gained = l.made.sent.gained;
+    whole = l.made.sent.whole;
+  };
 }
 
 -- what went to a line, by which its frames count

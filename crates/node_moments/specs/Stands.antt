@@ -90,7 +90,7 @@ LineInAt plan first read node now a = (line : LineView) → HasLineIn node a lin
     → LineStands (form_in plan a) (line_in_at first a) (line_in_at now a) (read.line a) node.past line
     × (line.pieces ≡ done_at node (port.LineIn a))
 
--- of an output line that is used the first so many frames were made, and were due to its place
+-- of an output line that is used the first so many frames were made, and those that do not wait were due to its place
 abbrev pub LineOutAt : Plan → (first : BaysView) → InputBytes → NodeView → (now : BaysView) → (b : ℕ) → Type 0
 LineOutAt plan first read node now b = (inputs : Inputs) → MayGive plan read node inputs → (line : LineOutView)
     → HasLineOut node b line → uses plan (port.LineOut b) ≡ true

@@ -83,3 +83,21 @@ pub(crate) fn lines_counted<K: Sink>(
     *number = number.saturating_add(written as u64);
     (answer, written)
 }
+
+/// Writes frames to the port of a live place until all are out or a call fails, counts their bytes, and says how many
+/// went.
+pub(crate) fn frames_counted<K: Sink>(
+    port: &mut K,
+    number: &mut u64,
+    frames: &[u8],
+) -> (Written, usize)
+    ensures sends { Sends (live_out K.Sink port.old number.old) (take result.1 frames.now)
+        (live_out K.Sink port.new number.new) }
+    ensures writing { IsWriting result.0 result.1 (length frames.now) }
+    ensures cause { result.0 ≡ Written.Lost → HasFailed (K.faults port.old) (K.faults port.new) }
+    ensures well { result.0 ≢ Written.Lost → K.faults port.new ≡ K.faults port.old }
+{
+    let (answer, written) = port.write_frames(frames);
+    *number = number.saturating_add(written as u64);
+    (answer, written)
+}

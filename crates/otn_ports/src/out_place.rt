@@ -7,7 +7,7 @@ ghost use Rattle.otn_ports.specs.Sent.{IsSent};
 ghost use Rattle.otn_ports.specs.Views.{Live, Dead};
 ghost use Rattle.otn_ports.specs.Writes.{Writes, IsWriting, state_after_write};
 
-use crate::drain::{drain_counted, lines_counted};
+use crate::drain::{drain_counted, frames_counted, lines_counted};
 use crate::{OutPort, Sealed, Sink, Written};
 use std::mem;
 
@@ -77,6 +77,33 @@ impl<K: Sink> OutPlaceOf<K> {
         }
         let (answer, written) = match self {
             OutPlaceOf::Live(port, number) => lines_counted(port, number, lines),
+            OutPlaceOf::Empty => return (Written::Whole, 0),
+            OutPlaceOf::Dead(..) => return (Written::Whole, 0),
+        };
+        if answer == Written::Lost {
+            self.die();
+        }
+        (answer, written)
+    }
+
+    /// Writes frames of a line, each of 16,320 bytes, and says how many bytes went: all frames at once to a file of the
+    /// system, and to any other port each frame for itself. What is said of `write_all` holds.
+    pub fn write_frames(&mut self, frames: &[u8]) -> (Written, usize)
+        ensures state { (out_view K.Sink self.new).state ≡ state_after_write (out_view K.Sink self.old).state result.0 }
+        ensures live { (out_view K.Sink self.old).state ≡ Live
+            → Writes result.0 (out_view K.Sink self.old) frames.now (out_view K.Sink self.new) }
+        ensures idle { (out_view K.Sink self.old).state ≢ Live → (self.new ≡ self.old) × (result ≡ (Written.Whole, 0)) }
+        ensures sent { IsSent (out_view K.Sink self.old) frames.now (out_view K.Sink self.new) }
+        ensures written { Gained (out_view K.Sink self.old) (take result.1 frames.now) (out_view K.Sink self.new) }
+        ensures writing { (out_view K.Sink self.old).state ≡ Live → IsWriting result.0 result.1 (length frames.now) }
+        ensures well { result.0 ≢ Written.Lost → (out_view K.Sink self.new).faults ≡ (out_view K.Sink self.old).faults }
+        ensures empty { length frames.now ≡ 0 → (self.new ≡ self.old) × (result ≡ (Written.Whole, 0)) }
+    {
+        if frames.is_empty() {
+            return (Written::Whole, 0);
+        }
+        let (answer, written) = match self {
+            OutPlaceOf::Live(port, number) => frames_counted(port, number, frames),
             OutPlaceOf::Empty => return (Written::Whole, 0),
             OutPlaceOf::Dead(..) => return (Written::Whole, 0),
         };

@@ -47,6 +47,13 @@ impl Sink for OutPort {
         }
     }
 
+    fn write_frames(&mut self, frames: &[u8]) -> (Written, usize) {
+        match self {
+            OutPort::Boxed(sink) => sink.write_frames(frames),
+            OutPort::Held(sink) => sink.write_frames(frames),
+        }
+    }
+
     fn kept(&self) -> Option<&[u8]> {
         match self {
             OutPort::Boxed(sink) => sink.kept(),

@@ -1,10 +1,12 @@
 // A port that takes bytes, and may fail at any call.
-ghost use Rattle.std.specs.Prelude.{◌≡◌, ◌≢◌, ◌<◌, ◌≤◌, ℕ, Bool, true, false, List, Option, Some, length, take, IfOk, IsSome, OnOk, OnErr, MatchOption};
+ghost use Rattle.std.specs.Prelude.{◌≡◌, ◌≢◌, ◌<◌, ◌≤◌, ◌+◌, ◌%◌, ◌⊎◌, ℕ, Bool, true, false, List, Option, Some, length, take, IfOk, IsSome, OnOk, OnErr, MatchOption};
+ghost use Rattle.otn_base.specs.declared.limits.TheConstants.{LINE_FRAME_BYTES};
 ghost use Rattle.otn_ports.specs.Bytes.{after, sent, HasFailed};
 ghost use Rattle.otn_ports.specs.Steps.Lines.{IsFirstLine};
 ghost use Rattle.otn_ports.specs.Writes.{IsWriting};
 
 use crate::{Failed, Written};
+use otn_base::limits::LINE_FRAME_BYTES as FRAME_BYTES;
 
 const LF: u8 = b'\n';
 
@@ -64,6 +66,41 @@ pub trait Sink: Drop {
         }
         (Written::Whole, done)
     }
+
+    /// Writes frames of a line, each of 16,320 bytes, until all are out or a call fails, and says how many bytes went.
+    /// Each frame is written for itself, by as many calls as it takes, so that a call never has bytes of two frames; a
+    /// port that has no need of that writes all frames at once.
+    fn write_frames(&mut self, frames: &[u8]) -> (Written, usize)
+        ensures within { result.1 ≤ length frames.now }
+        ensures bytes { got self.new ≡ after (got self.old) (take result.1 frames.now) }
+        ensures writing { IsWriting result.0 result.1 (length frames.now) }
+        ensures later { faults self.old ≤ faults self.new }
+        ensures cause { result.0 ≡ Written.Lost → HasFailed (faults self.old) (faults self.new) }
+        ensures well { result.0 ≢ Written.Lost → faults self.new ≡ faults self.old }
+        ensures keeps { keeps self.new ≡ keeps self.old }
+        ensures same { boxed self.new ≡ boxed self.old }
+    {
+        let mut done = 0;
+        while done < frames.len() {
+            let part = frame_part(done, frames.len());
+            match self.write(&frames[done..done + part]) {
+                Ok(n) => done += n,
+                Err(Failed) => return (Written::Lost, done),
+            }
+        }
+        (Written::Whole, done)
+    }
+}
+
+// How many of so many bytes of frames stand from this place up to the end of its frame.
+fn frame_part(at: usize, all: usize) -> usize
+    requires { at < all }
+    ensures some { 0 < result }
+    ensures within { at + result ≤ all }
+    ensures frame { (at + result) % LINE_FRAME_BYTES ≡ 0 ⊎ at + result ≡ all }
+    ensures one { at % LINE_FRAME_BYTES + result ≤ LINE_FRAME_BYTES }
+{
+    (FRAME_BYTES - at % FRAME_BYTES).min(all - at)
 }
 
 // How many bytes the first line has with its LF: all, where there is no LF.

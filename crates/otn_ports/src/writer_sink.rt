@@ -116,19 +116,54 @@ impl<W: Write + Drop> Sink for WriterSink<W> {
         ensures well { result.0 ≢ Written.Lost → writer_faults self.new ≡ writer_faults self.old }
         ensures writer { has_writer self.new ≡ has_writer self.old }
     {
-        let mut done = 0;
-        while done < lines.len() {
-            match self.write(&lines[done..]) {
-                Ok(n) => done += n,
-                Err(Failed) => return (Written::Lost, done),
-            }
-        }
-        (Written::Whole, done)
+        self.write_on(lines)
+    }
+
+    /// Many frames in one call of the writer, as far as it takes them.
+    fn write_frames(&mut self, frames: &[u8]) -> (Written, usize)
+        ensures within { result.1 ≤ length frames.now }
+        ensures system { Appends (writer_bytes W.contents self.old) (writer_bytes W.contents self.new)
+            (take result.1 frames.now) }
+        ensures writing { IsWriting result.0 result.1 (length frames.now) }
+        ensures later { writer_faults self.old ≤ writer_faults self.new }
+        ensures cause { result.0 ≡ Written.Lost → HasFailed (writer_faults self.old) (writer_faults self.new) }
+        ensures refused { result.0 ≡ Written.Lost → IsFault (writer_fault self.new) }
+        ensures well { result.0 ≢ Written.Lost → writer_faults self.new ≡ writer_faults self.old }
+        ensures writer { has_writer self.new ≡ has_writer self.old }
+    {
+        self.write_on(frames)
     }
 
     fn kept(&self) -> Option<&[u8]>
         ensures { result ≡ None }
     {
         None
+    }
+}
+
+impl<W: Write + Drop> WriterSink<W> {
+    ghost use Rattle.std.specs.Io.KnownBytes.{Appends};
+    ghost use Rattle.otn_ports.specs.Adapters.{IsFault, writer_fault, writer_faults, has_writer, writer_bytes};
+
+    // Calls the writer until all bytes are out or a call fails, and says how many went.
+    fn write_on(&mut self, bytes: &[u8]) -> (Written, usize)
+        ensures within { result.1 ≤ length bytes.now }
+        ensures system { Appends (writer_bytes W.contents self.old) (writer_bytes W.contents self.new)
+            (take result.1 bytes.now) }
+        ensures writing { IsWriting result.0 result.1 (length bytes.now) }
+        ensures later { writer_faults self.old ≤ writer_faults self.new }
+        ensures cause { result.0 ≡ Written.Lost → HasFailed (writer_faults self.old) (writer_faults self.new) }
+        ensures refused { result.0 ≡ Written.Lost → IsFault (writer_fault self.new) }
+        ensures well { result.0 ≢ Written.Lost → writer_faults self.new ≡ writer_faults self.old }
+        ensures writer { has_writer self.new ≡ has_writer self.old }
+    {
+        let mut done = 0;
+        while done < bytes.len() {
+            match self.write(&bytes[done..]) {
+                Ok(n) => done += n,
+                Err(Failed) => return (Written::Lost, done),
+            }
+        }
+        (Written::Whole, done)
     }
 }

@@ -83,6 +83,13 @@ impl<S: Sink> Sink for OutputPort<S> {
         }
     }
 
+    fn write_frames(&mut self, frames: &[u8]) -> (Written, usize) {
+        match self {
+            OutputPort::Plain(sink) => sink.write_frames(frames),
+            OutputPort::Capture(sink) => sink.write_frames(frames),
+        }
+    }
+
     fn kept(&self) -> Option<&[u8]> {
         match self {
             OutputPort::Plain(sink) => sink.kept(),

@@ -16,6 +16,7 @@ use Rattle.otn_ports.proofs.PortLaws.{sink_got_none}
 use Rattle.otn_ports.specs.declared.drain.Written.TheVariants as written
 use Rattle.tributary_line.specs.TapTurn.{TapView, TapStands}
 use Rattle.tributary_line.specs.TributaryFile.{AreTributaryFrames}
+use Rattle.tributary_line.proofs.FeedTurns.{file_sent}
 use Rattle.tributary_line.specs.FeedTurn.{FeedView, FeedStands}
 use Rattle.tributary_line.specs.Settling.{ended_by}
 use Rattle.tributary_line.proofs.Endings.{ends_by}
@@ -120,7 +121,7 @@ output_due own n w p t first last feed fed =
         are_put = subst (λ k. AreTributaryFrames own (due_before own n w p t) (8 * k) has.puts) (given_many own n w p t) has.are_put;
         are_frames = has.made.are_frames;
       };
-      sent = has.made.sent;
+      sent = file_sent own first.output last.output (due_before own n w p t) feed fed;
     }
 
 -- ---- the last turn

@@ -5,9 +5,12 @@ use Rattle.std.proofs.lemmas.List.{length-append, take-append-le, take_all}
 use Rattle.std.proofs.lemmas.Nat.{div-mul-add, mod-mul-add}
 use Rattle.std.proofs.lemmas.Option.{slice_get_within}
 use Rattle.std.proofs.Math.Nat.{div-lt_iff_lt-mul, mul-le-mul_left, mul-add}
+use Rattle.std.specs.List.{concat}
+use Rattle.otn_ports.specs.Sent.{IsSent}
 use Rattle.otn_ports.specs.Views.{OutView}
 use Rattle.line_side.specs.LineForm.{LineForm, plain_otu2}
 use Rattle.line_side.specs.LineOutput.{FramePut, LineMade, LineOutView}
+use Rattle.line_side.proofs.Made.{all_due}
 use Rattle.tributary_model.specs.Places.{Tributary}
 use Rattle.tributary_model.specs.Puts.{IsPut, IsSourcePlace}
 use Rattle.trib_source.specs.Source.{Source, StandsAfter}
@@ -22,6 +25,9 @@ made_on frame h = record {
   is_form = h.is_form;
   made = h.made;
   are_frames = h.are_frames;
+  due = h.due;
+  parts = h.parts;
+  over = h.over;
   sent = h.sent;
   frames = h.frames;
   sapi = h.sapi;
@@ -151,6 +157,13 @@ ends_turn own first now turns feed h =
         are_put = subst (λ k. AreTributaryFrames own turns k has.puts) count has.are_put;
       };
     }
+
+-- behind whole turns the whole file was due
+pub file_sent : (own : Tributary) (first now : OutView) (turns : List (List ℕ)) (feed : FeedView) → (h : FeedStands own first now turns feed) → IsSent first (concat h.has.made.made) now
+file_sent own first now turns feed h =
+    let has = h.has in
+    let whole : length has.puts % 8 ≡ 0 = (let many = has.are_put.many in omega arith) in
+    subst (λ due. IsSent first due now) (all_due 0 plain_otu2 first now has.puts feed.line has.made whole) has.made.sent
 
 -- ---- before the first turn
 

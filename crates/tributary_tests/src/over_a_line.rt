@@ -41,15 +41,17 @@ fn begin(source: &mut TribSource, bytes: &[u8])
     source.begin_turn(bytes);
 }
 
-// Puts a turn of these bytes into the frames of a line of so many slots, and sends them.
+// Puts a turn of these bytes into the frames of a line of so many slots, of which the first has this MFAS, and sends
+// them. Gives the MFAS of the frame behind them.
 fn put_turn(
     source: &mut TribSource,
     bytes: &[u8],
     slots: u8,
+    first: u8,
     line: &mut LineOut,
     map: &SlotMap,
     place: &mut OutPlaceOf<MemSink>,
-)
+) -> u8
     requires cnd { source.old.cnd < length source.old.slots.list }
     requires size { length bytes.now ≤ length source.old.slots.list * GROUPS }
     requires slots { slots ≡ slots_of source.old.slots.kind }
@@ -57,11 +59,13 @@ fn put_turn(
     ensures slots { source.new.slots ≡ source.old.slots }
 {
     begin(source, bytes);
+    let mut mfas = first;
     for n in 0..slots {
         source.fill(n, line.begin());
-        let mfas = (line.frames() % 256) as u8;
         line.finish(mfas, map, place);
+        mfas = mfas.wrapping_add(1);
     }
+    mfas
 }
 
 // The frames of a line with a tributary on these slots, from its first turn on.
@@ -74,12 +78,14 @@ fn line_of(alloc: Global, slots: &Slots, scrambled: bool) -> Result<Vec<u8>, Mem
     let mut source = TribSource::new(alloc, slots)?;
     let mut map = SlotMap::new(kind);
     map.allot(slots, PORT);
+    let mut mfas = 0;
     for turn in 0..TURNS {
         let bytes = bytes_of(alloc, slots, turn)?;
-        put_turn(
+        mfas = put_turn(
             &mut source,
             &bytes,
             kind.slots(),
+            mfas,
             &mut line,
             &map,
             &mut place,
