@@ -7,7 +7,7 @@ use crate::ALL;
 use std::marker::Model;
 
 // The runs of an ODU0 at its nominal rate are 237 data groups long: its 64 stuff groups stand evenly among 15,232.
-const FIRST_GUESS: u32 = 236;
+const FIRST_GUESS: u32 = 237;
 
 /// The data rule over the groups in order, by a running remainder. It is seen as the number of data
 /// groups of the multiframe and the number of groups asked so far.
@@ -97,8 +97,7 @@ impl Runner {
 }
 
 // How many groups, of `most` at most, carry data one after the other where the remainder stands so
-// high and each of them lowers it by `stuff`. But for one that begins in the middle, the runs of a
-// multiframe are of two lengths, one group apart: the guess keeps to the longest that came.
+// high and each of them lowers it by `stuff`.
 fn run_within(remainder: u32, stuff: u32, most: u32, near: &mut u32) -> u32
     requires most { most ≤ GROUPS }
     requires remainder { remainder ≤ GROUPS }
@@ -115,25 +114,27 @@ fn run_within(remainder: u32, stuff: u32, most: u32, near: &mut u32) -> u32
     if stuff == 0 {
         return most;
     }
-    let whole = quotient(remainder, stuff, *near);
-    *near = (*near).max(whole.saturating_sub(1));
-    most.min(whole)
+    most.min(quotient(remainder, stuff, near))
 }
 
-// The quotient of the two, without a division where it is `near` or one more.
-fn quotient(dividend: u32, divisor: u32, near: u32) -> u32
+// The quotient of the two, without a division where it is `near` or one more. Where it is neither, the guess becomes
+// the length of the shorter runs of a multiframe with so many stuff groups. Its other runs are one group longer, but
+// for one that begins in the middle.
+fn quotient(dividend: u32, stuff: u32, near: &mut u32) -> u32
     requires dividend { dividend ≤ GROUPS }
-    requires some { 0 < divisor }
-    requires few { divisor ≤ GROUPS }
-    requires near { near ≤ GROUPS }
-    ensures { result ≡ dividend / divisor }
+    requires some { 0 < stuff }
+    requires few { stuff ≤ GROUPS }
+    requires near { near.old ≤ GROUPS }
+    ensures quotient { result ≡ dividend / stuff }
+    ensures near { near.new ≤ GROUPS }
 {
-    let product = near * divisor;
-    if product <= dividend && dividend - product < divisor {
-        return near;
+    let product = *near * stuff;
+    if product <= dividend && dividend - product < stuff {
+        return *near;
     }
-    if product + divisor <= dividend && dividend - product - divisor < divisor {
-        return near + 1;
+    if product + stuff <= dividend && dividend - product - stuff < stuff {
+        return *near + 1;
     }
-    dividend / divisor
+    *near = ALL / stuff - 1;
+    dividend / stuff
 }
