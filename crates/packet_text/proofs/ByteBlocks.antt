@@ -1,11 +1,11 @@
 -- Bytes whose digits are written block by block.
-use Rattle.std.proofs.Common.{◌≡◌, ℕ, zero, suc, ◌+◌, ◌*◌, ◌/◌, ◌%◌, ◌^◌, ◌<◌, ◌≤◌, List, [], ◌∷◌, ◌++◌, map, length, take, drop, get_or, replicate, bit_and, refl, sym, ap, ◌∙◌, arith, w8, Fits}
-use Rattle.std.proofs.lemmas.List.{append_assoc, ext_get_or, get_or-map, length-map}
+use Rattle.std.proofs.Common.{◌≡◌, ℕ, zero, suc, ◌+◌, ◌-◌, ◌*◌, ◌/◌, ◌%◌, ◌^◌, ◌<◌, ◌≤◌, List, [], ◌∷◌, ◌++◌, map, length, length-drop, take, drop, get_or, replicate, bit_and, refl, sym, ap, ◌∙◌, arith, w8, Fits}
+use Rattle.std.proofs.lemmas.List.{append_assoc, ext_get_or, get_or-map, length-map, length-take-le, take-append-le, take-append-drop, take_all, take-take}
 use Rattle.std.proofs.lemmas.Nat.{and_mask}
 use Rattle.std.proofs.lemmas.Simd.{Each1-weaker, Each1-zip2, Each2-splat, swz_l, SwzOk, SwzOk-from_below, length-zip2, length-swz_l, get_or-swz_l_below, zip2_splat, below_from_Fits, take_more_put_chunk, length-put_chunk, chunk-drop}
 use lib.Lanes.{zip2, Each1, put_chunk}
 use Rattle.hex.specs.Hex.{encode_lower, encode_with, lower_digits}
-use Rattle.packet_text.specs.Steps.DigitMarks.{sixteen, in_turn, bytes_from}
+use Rattle.packet_text.specs.Steps.DigitMarks.{sixteen, in_turn, bytes_from, Put}
 use Rattle.packet_text.proofs.DigitLanes.{sixteen_loaded}
 
 pub each_digit : (digits : List ℕ) → digits ≡ encode_lower (0x01 ∷ 0x23 ∷ 0x45 ∷ 0x67 ∷ 0x89 ∷ 0xab ∷ 0xcd ∷ 0xef ∷ []) → digits ≡ lower_digits
@@ -91,10 +91,6 @@ unfolding encode_with
 both_encoded t [] ys = refl
 both_encoded t (x ∷ xs) ys = ap (λ l. get_or t (x / 16) 0 ∷ get_or t (x % 16) 0 ∷ l) (both_encoded t xs ys)
 
--- the digits of the first bytes stand, and behind them those of the others are to come
-pub record Put (packet digits : List ℕ) (count : ℕ) : Type 0 where
-  pub front : take (2 * count) digits ++ encode_lower (drop count packet) ≡ encode_lower packet
-
 pub none_put : (packet digits : List ℕ) → Put packet digits 0
 none_put packet digits = record { front = refl }
 
@@ -117,3 +113,41 @@ more_put packet old new block h p = record { front = rw (count, place) whole }
         ∙ append_assoc (take (2 * at) old) (encode_lower (take 16 (drop at packet))) (encode_lower (drop (at + 16) packet))
         ∙ ap (λ l. take (2 * at) old ++ l) (sym (both_encoded lower_digits (take 16 (drop at packet)) (drop (at + 16) packet)) ∙ ap encode_lower (sym (chunk-drop at 16 packet)))
         ∙ p.front
+
+-- ---- the last block, which may overlap the one before it
+
+length_encoded : (t xs : List ℕ) → length (encode_with t xs) ≡ 2 * length xs
+unfolding encode_with
+length_encoded t [] = refl
+length_encoded t (x ∷ xs) = let h = length_encoded t xs in omega arith
+
+-- fewer bytes have their digits too
+pub fewer_put : (packet digits : List ℕ) (few count : ℕ) → few ≤ count → count ≤ length packet → 2 * count ≤ length digits → Put packet digits count → Put packet digits few
+fewer_put packet digits few count less within room put = record { front = ap (λ l. l ++ encode_lower (drop few packet)) front ∙ sym (both_encoded lower_digits (take few packet) (drop few packet)) ∙ ap encode_lower (take-append-drop few packet) }
+  where
+    short : 2 * few ≤ length (take (2 * count) digits)
+    short = let e = length-take-le (2 * count) digits room in omega arith
+
+    half : 2 * few ≤ length (encode_lower (take few packet))
+    half = let e = length_encoded lower_digits (take few packet) in let l = length-take-le few packet (omega arith) in omega arith
+
+    whole : length (encode_lower (take few packet)) ≡ 2 * few
+    whole = let e = length_encoded lower_digits (take few packet) in let l = length-take-le few packet (omega arith) in omega arith
+
+    front : take (2 * few) digits ≡ encode_lower (take few packet)
+    front =
+        sym (take-take (2 * few) (2 * count) digits (omega arith))
+        ∙ sym (take-append-le (2 * few) (take (2 * count) digits) (encode_lower (drop count packet)) short)
+        ∙ ap (take (2 * few)) (put.front ∙ ap encode_lower (sym (take-append-drop few packet)) ∙ both_encoded lower_digits (take few packet) (drop few packet))
+        ∙ take-append-le (2 * few) (encode_lower (take few packet)) (encode_lower (drop few packet)) half
+        ∙ take_all (2 * few) (encode_lower (take few packet)) (omega (arith, whole))
+
+pub end_put : (packet old new : List ℕ) (done : ℕ) → 16 ≤ length packet → length packet < done + 16 → done ≤ length packet → length old ≡ 2 * length packet → length new ≡ length old
+    → take (2 * (length packet - 16) + 32) new ≡ take (2 * (length packet - 16)) old ++ encode_lower (take 16 (drop (length packet - 16) packet))
+    → Put packet old done → new ≡ encode_lower packet
+end_put packet old new done long few within room same here put =
+    let at = length packet - 16 in
+    let all : take (2 * at + 32) new ≡ new = take_all (2 * at + 32) new (omega arith) in
+    let rest : take 16 (drop at packet) ≡ drop at packet = take_all 16 (drop at packet) (let e = length-drop at packet in omega arith) in
+    sym all ∙ here ∙ ap (λ l. take (2 * at) old ++ encode_lower l) rest
+    ∙ (fewer_put packet old at done (omega arith) within (omega arith) put).front

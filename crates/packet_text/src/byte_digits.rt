@@ -1,7 +1,8 @@
 // The hex digits of bytes, and a packet's line by them.
-ghost use Rattle.std.specs.Prelude.{◌≡◌, ◌+◌, ◌*◌, ◌≤◌, ◌++◌, length, take, drop};
+ghost use Rattle.std.specs.Prelude.{◌≡◌, ◌+◌, ◌*◌, ◌<◌, ◌≤◌, ◌++◌, length, take, drop};
 ghost use Rattle.hex.specs.Hex.{encode_lower, lower_digits};
 ghost use Rattle.packet_text.specs.PacketText.{packet_line};
+ghost use Rattle.packet_text.specs.Steps.DigitMarks.{Put};
 
 use crate::lanes::{BLOCK, encode_block};
 use crate::writing::{end_line, put_digits};
@@ -51,15 +52,23 @@ impl ByteDigits {
         for block in 0..blocks {
             encode_block(table, packet, digits, BLOCK * block);
         }
-        encode_rest(packet, digits, BLOCK * blocks);
+        encode_end(table, packet, digits, BLOCK * blocks);
     }
 }
 
-// Writes the digits of the bytes from `at` on, by the library.
-fn encode_rest(packet: &[u8], digits: &mut [u8], at: usize)
-    requires at { at ≤ length packet.now }
+// Writes the digits behind those of the first `done` bytes: by a last block, which may overlap the one before it, and
+// those of a packet that has no block by the library.
+fn encode_end(table: u8x16, packet: &[u8], digits: &mut [u8], done: usize)
+    requires table { table ≡ lower_digits }
     requires room { length digits.old ≡ 2 * length packet.now }
-    ensures { digits.new ≡ take (2 * at) digits.old ++ encode_lower (drop at packet.now) }
+    requires within { done ≤ length packet.now }
+    requires few { length packet.now < done + 16 }
+    requires put { Put packet.now digits.old done }
+    ensures { digits.new ≡ encode_lower packet.now }
 {
-    put_digits(&packet[at..], &mut digits[2 * at..]);
+    if packet.len() < BLOCK {
+        put_digits(packet, digits);
+        return;
+    }
+    encode_block(table, packet, digits, packet.len() - BLOCK);
 }

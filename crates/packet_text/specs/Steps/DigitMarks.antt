@@ -1,6 +1,6 @@
 -- Steps of `values`, `decode_block` and others: what private contracts alone cite.
-use Rattle.std.specs.Prelude.{ℕ, ◌≡◌, ◌<◌, ◌≤◌, ◌+◌, ◌-◌, ◌*◌, ◌/◌, ◌%◌, ◌^◌, nat_lt, if◌then◌else◌, List, [], ◌∷◌, Ok, Err, slice_index, bit_and, bit_or}
-use Rattle.hex.specs.Hex.{pair_value}
+use Rattle.std.specs.Prelude.{ℕ, ◌≡◌, ◌<◌, ◌≤◌, ◌+◌, ◌-◌, ◌*◌, ◌/◌, ◌%◌, ◌^◌, nat_lt, if◌then◌else◌, List, [], ◌∷◌, ◌++◌, take, drop, Ok, Err, slice_index, bit_and, bit_or}
+use Rattle.hex.specs.Hex.{pair_value, encode_lower}
 use Rattle.hex.specs.declared.error.FromHexError.{FromHexError}
 
 -- a vector of sixteen bytes, lane by lane
@@ -69,3 +69,7 @@ pub record HasLarge (lanes : List ℕ) : Type 0 where
   pub lane : ℕ
   pub below : lane < 16
   pub large : 16 ≤ slice_index lanes lane
+
+-- the digits of the first bytes stand, and behind them those of the others are to come
+pub record Put (packet digits : List ℕ) (count : ℕ) : Type 0 where
+  pub front : take (2 * count) digits ++ encode_lower (drop count packet) ≡ encode_lower packet

@@ -1,5 +1,5 @@
 use Rattle.std.proofs.Common.{◌*◌}
-use Rattle.packet_text.proofs.ByteBlocks.{Put}
+use Rattle.packet_text.specs.Steps.DigitMarks.{Put}
 use Rattle.packet_text.proofs.byte_digits.ByteDigits.encode.Given as goal
 
 abbrev pub invariant-loop-block : goal.invariant-loop-block
