@@ -1,20 +1,21 @@
 -- A reader that goes over several bytes.
-use Rattle.std.proofs.Common.{◌≡◌, ℕ, zero, suc, ◌+◌, ◌-◌, ◌*◌, ◌/◌, ◌%◌, ◌^◌, ◌<◌, List, [], ◌∷◌, ◌++◌, Bool, true, false, Some, None, length, take, drop, get_or, refl, ap, ◌∙◌, sym, subst, arith, inl, inr, append_assoc, length-append, length-take}
+use Rattle.std.proofs.Common.{◌≡◌, ℕ, zero, suc, ◌+◌, ◌-◌, ◌*◌, ◌/◌, ◌%◌, ◌^◌, ◌<◌, ◌≤◌, List, [], ◌∷◌, ◌++◌, Bool, true, false, Some, None, length, take, drop, get_or, refl, ap, ◌∙◌, sym, subst, arith, inl, inr, append_assoc, length-append, length-take}
 use Rattle.std.proofs.lemmas.List.{take-append-le, length-take-le, take_rest, take_more}
 use Rattle.std.proofs.lemmas.Bool.{cases_lt}
 use Rattle.std.proofs.Math.Seq.{take-append-add, take-add}
 use Rattle.std.specs.Prelude.{min, bit_xor}
+use Rattle.std.specs.Option.{option_map_or}
 use Rattle.crc_small.specs.LongDivision.{crc16_of, check_of, remainder_from, bits_of, low_bits}
 use Rattle.gfp_frames.specs.CoreHeader.{core_header, header_in, number_of_four, pattern, near_pli, right_pli}
 use Rattle.gfp_frames.specs.Maker.{idle_bytes}
 use Rattle.gfp_frames.specs.Delineation.{from_sync}
 use Rattle.gfp_frames.specs.Reader.{ReaderState, may_want, areas_from, to_come}
-use Rattle.gfp_frames.specs.Steps.Reader.{kept_some, three_bytes, hunts_after, slid, Goes, GoesOver}
+use Rattle.gfp_frames.specs.Steps.Reader.{kept_some, three_bytes, hunts_after, slid, sync_after, Goes, GoesOver}
 use Rattle.gfp_frames.specs.declared.phase.Phase.{Phase}
 use Rattle.gfp_frames.specs.declared.phase.Phase.TheVariants.{Hunt, Sync}
 use Rattle.gfp_frames.proofs.Texts.{header_size}
 use Rattle.gfp_frames.proofs.Delineating.{sync_goes}
-use Rattle.gfp_frames.proofs.Reading.{four_wanted, waits, waits_more, none_to_come, same_to_come, sync_short, goes_in_hunt}
+use Rattle.gfp_frames.proofs.Reading.{four_wanted, waits, waits_more, none_to_come, same_to_come, sync_short, goes_in_hunt, goes_in_sync}
 
 -- ---- one after another
 
@@ -143,6 +144,23 @@ over_kept_part old mid new bytes at n first may short count is =
     let Q : ReaderState → Type 0 = λ s. GoesOver mid (take n rest) false s in
     let few : length (take n rest) ≡ n = length-take-le n rest (omega arith) in
     over_part old mid new bytes at n false first (subst Q (sym is) (over_kept mid (take n rest) may (omega arith)))
+
+-- ---- a header in sync
+
+-- one that stands whole at the front, where it is awaited
+pub over_header : (old mid new : ReaderState) (bytes : List ℕ) → old.phase ≡ Sync → old.wanted ≡ 4 → length old.held ≡ 0 → 4 ≤ length bytes → mid ≡ kept_some old (take 3 bytes)
+    → new ≡ option_map_or (sync_after mid) (near_pli (header_in (mid.held ++ get_or bytes 3 0 ∷ []))) (slid mid (get_or bytes 3 0))
+    → GoesOver old (take 4 bytes) false new
+over_header old mid new bytes phase wanted none long three header =
+    let byte = get_or bytes 3 0 in
+    let size : length (take 3 bytes) ≡ 3 = length-take-le 3 bytes (omega arith) in
+    let may : may_want old.phase old.wanted ≡ true = ap (λ p. may_want p old.wanted) phase ∙ ap (may_want Sync) wanted in
+    let Mid : ReaderState → Type 0 = λ s. GoesOver old (take 3 bytes) false s in
+    let New : ReaderState → Type 0 = λ s. Goes mid byte false s in
+    let held : length mid.held ≡ 3 = ap (λ (s : ReaderState). length s.held) three ∙ length-append old.held (take 3 bytes) ∙ omega arith in
+    let four : length (mid.held ++ byte ∷ []) ≡ 4 = length-append mid.held (byte ∷ []) ∙ omega arith in
+    let goes = goes_in_sync mid byte (near_pli (header_in (mid.held ++ byte ∷ []))) (ap (λ (s : ReaderState). s.phase) three ∙ phase) four refl in
+    over_byte old mid new bytes 3 false (omega arith) (subst Mid (sym three) (over_kept old (take 3 bytes) may (omega arith))) (subst New (sym header) goes)
 
 -- ---- a hunt
 

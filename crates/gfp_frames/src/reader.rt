@@ -254,7 +254,45 @@ impl GfpReader {
         ensures within { result ≤ length bytes.now }
     {
         let idle = self.skip_idles(bytes);
-        idle + self.hunt_on(&bytes[idle..])
+        idle + self.pass_header(&bytes[idle..])
+    }
+
+    // The same, where no idle frame is in front.
+    fn pass_header(&mut self, bytes: &[u8]) -> usize
+        ensures goes { GoesOver self.old (take result bytes.now) false self.new }
+        ensures within { result ≤ length bytes.now }
+    {
+        let header = self.take_header(bytes);
+        header + self.hunt_on(&bytes[header..])
+    }
+
+    // Takes a header that stands whole at the front, where one is awaited in sync: how many bytes.
+    fn take_header(&mut self, bytes: &[u8]) -> usize
+        ensures goes { GoesOver self.old (take result bytes.now) false self.new }
+        ensures within { result ≤ length bytes.now }
+    {
+        let sync = matches!(self.phase, Phase::Sync);
+        if sync && self.held == 0 && bytes.len() >= HEADER {
+            self.hold_three(bytes);
+            self.end_sync_header(bytes[3]);
+            HEADER
+        } else {
+            0
+        }
+    }
+
+    // Keeps the first three bytes, where nothing is held.
+    fn hold_three(&mut self, bytes: &[u8])
+        requires none { length self.old.held ≡ 0 }
+        requires wanted { self.old.wanted ≡ 4 }
+        requires some { 4 ≤ length bytes.now }
+        ensures { self.new ≡ kept_some self.old (take 3 bytes.now) }
+    {
+        self.buffer[0] = bytes[0];
+        self.buffer[1] = bytes[1];
+        self.buffer[2] = bytes[2];
+        self.held = 3;
+        self.area = 0;
     }
 
     // Passes the idle frames at the front, where a header is awaited in sync: how many bytes.
