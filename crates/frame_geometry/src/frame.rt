@@ -1,11 +1,13 @@
 // A frame: its bytes, row by row.
-ghost use Rattle.std.specs.Prelude.{◌≡◌, ℕ, ◌*◌, ◌≤◌, length, IfOk, slice_index, slice_set};
+ghost use Rattle.std.specs.Prelude.{◌≡◌, ℕ, ◌*◌, ◌≤◌, length, IfOk, slice_index, slice_set, vec_len};
+ghost use Rattle.std.specs.Vec.{vec_capacity};
 ghost use Rattle.otn_base.specs.declared.limits.TheConstants.{OVERHEAD_COLUMNS};
 
 use otn_base::Memory;
 use otn_base::limits::ROWS;
 use std::alloc::Global;
 use std::marker::Model;
+use std::mem;
 
 /// A frame of four rows of `COLS` columns (G.709 clause 11.1): 4,080 of them for a frame of an OTU2 or an OTU3 with its
 /// FEC field, 3,824 for an ODU frame. It is seen as the list of its bytes, row by row. Rows and columns count from 1.
@@ -93,6 +95,16 @@ impl<const COLS: usize> Frame<COLS> {
         ensures { self.new ≡ bytes.now }
     {
         self.bytes.copy_from_slice(bytes);
+    }
+
+    /// Changes places with these bytes: they are the frame's from here on, row by row, and the frame's are theirs.
+    pub fn exchange(&mut self, bytes: &mut Vec<u8>)
+        requires size { vec_len bytes.old ≡ 4 * COLS }
+        ensures frame { self.new ≡ bytes.old.items }
+        ensures bytes { bytes.new.items ≡ self.old }
+        ensures room { 4 * COLS ≤ vec_capacity bytes.new }
+    {
+        mem::swap(&mut self.bytes, bytes);
     }
 
     /// All bytes, row by row.

@@ -178,7 +178,7 @@ impl ClientAligner {
             self.held.clear();
             return Aligned::Break;
         }
-        self.frame.fill_from(&self.held);
+        self.frame.exchange(&mut self.held);
         self.held.clear();
         self.frames = self.frames.saturating_add(1);
         Aligned::Whole

@@ -83,7 +83,6 @@ returns-clause-goes c =
     let here = few_here s.misses c.deref.result.now c.append.new.buffer.items c.deref.ensures.value (c.is_given_up.ensures.not_yet c.if-is_given_up.false) in
     let few : 6 ≤ length c.append.new.buffer.items → misses_after s.misses c.append.new.buffer.items < 5 = still_few s.misses c.args.byte s.held.items c.append.new.buffer.items a (λ six. s.going (omega arith)) here in
     let size : length c.append.new.buffer.items ≡ 15296 = omega arith in
-    let frame = c.fill_from.ensures ∙ c.deref-4.ensures.value in
     let count = c.count-self.ensures.value ∙ ap (misses_after s.misses) c.deref-2.ensures.value in
     let signal = sym (ap is_signal c.deref-3.ensures.value) ∙ sym c.has_signal.ensures ∙ c.if-has_signal.false in
-    ends _ _ _ _ _ _ c.append.new.buffer.items _ _ c.requires a size (few (omega arith)) count (news_whole c.fill_from.new.self c.append.new.buffer.items frame signal) c.clear-2.ensures.items
+    ends _ _ _ _ _ _ c.append.new.buffer.items _ _ c.requires a size (few (omega arith)) count (news_whole c.exchange.new.self c.append.new.buffer.items c.exchange.ensures.frame signal) c.clear-2.ensures.items
