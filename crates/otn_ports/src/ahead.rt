@@ -11,12 +11,12 @@ use std::alloc::{AllocError, Global};
 use std::io::{ErrorKind, Read};
 use std::marker::Model;
 
-// Bytes that a reader is asked for at a time: eight frames of a line, or as many of a text as are best.
-const FRAMES_BYTES: usize = 8 * LINE_FRAME_BYTES;
+// Bytes that a reader is asked for at a time: four frames of a line, or as many of a text as are best.
+const FRAMES_BYTES: usize = 4 * LINE_FRAME_BYTES;
 
 const TEXT_BYTES: usize = 32_768;
 
-/// What a reader is asked for at a time where each read goes by a block: eight frames of a line, which are 130,560
+/// What a reader is asked for at a time where each read goes by a block: four frames of a line, which are 65,280
 /// bytes, or 32,768 bytes of a text.
 #[derive(Clone, Copy, Debug)]
 pub enum ReadBlock {

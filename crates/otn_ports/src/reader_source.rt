@@ -116,7 +116,7 @@ impl<R: Read + Drop> Source for ReaderSource<R> {
         answer
     }
 
-    /// Asks its reader for the bytes of eight frames of a line, by one call, where nothing is at hand. Where the system
+    /// Asks its reader for the bytes of four frames of a line, by one call, where nothing is at hand. Where the system
     /// refuses that call, the next read answers so. Without memory for these bytes, or without a reader, nothing is
     /// asked.
     fn look_ahead(&mut self, alloc: Global)
