@@ -257,7 +257,7 @@ impl GfpReader {
         idle + self.pass_header(&bytes[idle..])
     }
 
-    // The same, where no idle frame is in front.
+    // The same behind the idle frames: a header, and what a hunt goes over.
     fn pass_header(&mut self, bytes: &[u8]) -> usize
         ensures goes { GoesOver self.old (take result bytes.now) false self.new }
         ensures within { result ≤ length bytes.now }
@@ -281,7 +281,7 @@ impl GfpReader {
         }
     }
 
-    // Keeps the first three bytes, where nothing is held.
+    // Keeps the first three bytes, where nothing is held: as `keep_some` does, but with no call for a copy.
     fn hold_three(&mut self, bytes: &[u8])
         requires none { length self.old.held ≡ 0 }
         requires wanted { self.old.wanted ≡ 4 }
