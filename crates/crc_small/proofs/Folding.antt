@@ -35,7 +35,7 @@ after-xor c d x y hc hd hx hy =
     ∙ sym (both (one_byte c x hc hx) (one_byte d y hd hy))
 
 -- the shifts of n bytes
-zs : ℕ → ℕ → ℕ
+unfoldable pub zs : ℕ → ℕ → ℕ
 zs zero s = s
 zs (suc n) s = z (zs n s)
 
@@ -169,7 +169,7 @@ side_by_side m p q (suc n) r s hp hq hr hs h =
 
 -- ---- the same bytes, named otherwise
 
-some_same : (g h : ℕ → ℕ) (i k n r : ℕ) → ((j : ℕ) → j < n → g (i + j) ≡ h (k + j)) → after_some g i n r ≡ after_some h k n r
+pub some_same : (g h : ℕ → ℕ) (i k n r : ℕ) → ((j : ℕ) → j < n → g (i + j) ≡ h (k + j)) → after_some g i n r ≡ after_some h k n r
 unfolding after_some
 some_same g h i k zero r e = refl
 some_same g h i k (suc n) r e = ap (λ c. after c (g (i + n))) (some_same g h i k n r (λ j l. e j (omega arith))) ∙ ap (after (after_some h k n r)) (e n (omega arith))
@@ -200,6 +200,17 @@ unfolding pending
 pending-lt g i h =
     xor_lt 32 (after_some g i 93 0) (sum_at (λ c. after_some g i c 0) places) (some-lt g i 93 0 h (omega arith))
     (sum_at-lt 32 (λ c. after_some g i c 0) places (λ c. some-lt g i c 0 h (omega arith)) (omega arith))
+
+-- zeros are shifts
+pub some_zeros : (g : ℕ → ℕ) (n r : ℕ) → r < 2 ^ 32 → ((j : ℕ) → j < n → g j ≡ 0) → after_some g 0 n r ≡ zs n r
+unfolding after_some zs
+some_zeros g zero r h e = refl
+some_zeros g (suc n) r h e =
+    let same : 0 + n ≡ n = omega arith in
+    ap (λ c. after c (g (0 + n))) (some_zeros g n r h (λ j l. e j (omega arith)))
+    ∙ ap (λ k. after (zs n r) (g k)) same
+    ∙ ap (after (zs n r)) (e n (omega arith))
+    ∙ after_zero (zs n r) (zs-lt n r h)
 
 -- the first n bytes, and then k more
 pub some_split : (g : ℕ → ℕ) (n k r : ℕ) → after_some g 0 (n + k) r ≡ after_some (λ j. g (n + j)) 0 k (after_some g 0 n r)

@@ -2,6 +2,7 @@ pub mod Changes
 pub mod Folding
 pub mod Header
 pub mod Inverted
+pub mod Leading
 pub mod Linear
 pub mod LookUps
 pub mod Register

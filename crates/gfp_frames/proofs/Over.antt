@@ -1,8 +1,9 @@
 -- A reader that goes over several bytes.
 use Rattle.std.proofs.Common.{◌≡◌, ℕ, zero, suc, ◌+◌, ◌-◌, ◌*◌, ◌/◌, ◌%◌, ◌^◌, ◌<◌, ◌≤◌, List, [], ◌∷◌, ◌++◌, Bool, true, false, Some, None, length, take, drop, get_or, refl, ap, ◌∙◌, sym, subst, arith, inl, inr, append_assoc, length-append, length-take}
-use Rattle.std.proofs.lemmas.List.{take-append-le, length-take-le, take_rest, take_more}
+use Rattle.std.proofs.lemmas.List.{take-append-le, length-take-le, take_rest, take_more, nil_from_length}
 use Rattle.std.proofs.lemmas.Bool.{cases_lt}
-use Rattle.std.proofs.Math.Seq.{take-append-add, take-add}
+use Rattle.std.proofs.Math.Seq.{take-append-add, take-add, drop-append_seam}
+use Rattle.gfp_scrambler.specs.Register.{last_bits}
 use Rattle.std.specs.Prelude.{min, bit_xor}
 use Rattle.std.specs.Option.{option_map_or}
 use Rattle.crc_small.specs.LongDivision.{crc16_of, check_of, remainder_from, bits_of, low_bits}
@@ -10,12 +11,12 @@ use Rattle.gfp_frames.specs.CoreHeader.{core_header, header_in, number_of_four, 
 use Rattle.gfp_frames.specs.Maker.{idle_bytes}
 use Rattle.gfp_frames.specs.Delineation.{from_sync}
 use Rattle.gfp_frames.specs.Reader.{ReaderState, may_want, areas_from, to_come}
-use Rattle.gfp_frames.specs.Steps.Reader.{kept_some, three_bytes, hunts_after, slid, sync_after, Goes, GoesOver}
+use Rattle.gfp_frames.specs.Steps.Reader.{kept_some, three_bytes, hunts_after, slid, sync_after, whole_area_after, Goes, GoesOver}
 use Rattle.gfp_frames.specs.declared.phase.Phase.{Phase}
-use Rattle.gfp_frames.specs.declared.phase.Phase.TheVariants.{Hunt, Sync}
+use Rattle.gfp_frames.specs.declared.phase.Phase.TheVariants.{Hunt, SyncArea, Sync}
 use Rattle.gfp_frames.proofs.Texts.{header_size}
 use Rattle.gfp_frames.proofs.Delineating.{sync_goes}
-use Rattle.gfp_frames.proofs.Reading.{four_wanted, waits, waits_more, none_to_come, same_to_come, sync_short, goes_in_hunt, goes_in_sync}
+use Rattle.gfp_frames.proofs.Reading.{four_wanted, waits, waits_more, none_to_come, same_to_come, sync_short, area_whole, big_in_area, plain_areas-cons, goes_in_hunt, goes_in_sync}
 
 -- ---- one after another
 
@@ -70,6 +71,30 @@ over_kept old bytes may short =
           none_to_come old.register (areas_from old.phase old.wanted (old.held ++ part))
           (waits old.phase old.wanted (old.held ++ part) four (let e = length-append old.held part in let l = length-take-le k bytes (omega arith) in omega arith));
     }
+
+-- ---- an area in sync that came at once
+
+pub over_whole_area : (old new : ReaderState) (bytes : List ℕ) → old.phase ≡ SyncArea → length old.held ≡ 0 → may_want old.phase old.wanted ≡ true → length bytes ≡ old.wanted
+    → new ≡ whole_area_after old bytes → GoesOver old bytes true new
+over_whole_area old new bytes phase empty may size is =
+    let r = old.register in
+    let none : old.held ≡ [] = nil_from_length old.held empty in
+    let all : (more : List ℕ) → areas_from old.phase old.wanted (old.held ++ (bytes ++ more)) ≡ bytes ∷ from_sync more = λ more.
+    ap (λ h. areas_from old.phase old.wanted (h ++ (bytes ++ more))) none
+    ∙ ap (λ p. areas_from p old.wanted (bytes ++ more)) phase
+    ∙ ap (λ y. y ++ from_sync (drop old.wanted (bytes ++ more))) (area_whole old.wanted bytes more size (big_in_area old.phase old.wanted phase may))
+    ∙ ap (λ y. bytes ∷ from_sync y) (ap (λ n. drop n (bytes ++ more)) (sym size) ∙ drop-append_seam bytes more) in
+    let P : ReaderState → Type 0 = λ s. GoesOver old bytes true s in
+    let over : GoesOver old bytes true (whole_area_after old bytes) = record {
+      each = λ more. same_to_come r (areas_from old.phase old.wanted (old.held ++ (bytes ++ more))) (bytes ∷ from_sync more) (all more) ∙ plain_areas-cons r bytes (from_sync more);
+      none = none_to_come (last_bits r bytes) (from_sync []) (sync_short [] (omega arith));
+      before = λ k h.
+          let part = take k bytes in
+          none_to_come r (areas_from old.phase old.wanted (old.held ++ part))
+          (waits old.phase old.wanted (old.held ++ part) (four_wanted old.phase old.wanted may)
+          (let e = length-append old.held part in let l = length-take-le k bytes (omega arith) in omega arith));
+    } in
+    subst P (sym is) over
 
 -- ---- idle frames in sync
 

@@ -1,5 +1,5 @@
 // Packets out of any list of bytes.
-ghost use Rattle.std.specs.Prelude.{◌≡◌, ℕ, ◌+◌, ◌-◌, ◌/◌, ◌%◌, ◌^◌, ◌≤◌, ◌<◌, min, true, false, IsNone, List, [], ◌∷◌, ◌++◌, IfOk, IfSome, IsTrue, length, take, drop, vec_len, option_copied, option_map, option_to_list};
+ghost use Rattle.std.specs.Prelude.{◌≡◌, ℕ, ◌+◌, ◌-◌, ◌/◌, ◌%◌, ◌^◌, ◌≤◌, ◌<◌, min, true, false, IsNone, List, [], ◌∷◌, ◌++◌, IfOk, IfSome, IsTrue, length, take, drop, slice_index, vec_len, option_copied, option_map, option_to_list};
 ghost use Rattle.std.specs.Option.{option_map_or};
 ghost use Rattle.otn_base.specs.declared.limits.TheConstants.{MOST_DELIVERED};
 ghost use Rattle.gfp_scrambler.specs.Register.{last_bits, descrambled};
@@ -7,7 +7,7 @@ ghost use Rattle.gfp_frames.specs.CoreHeader.{four_bytes, header_in, right_pli, 
 ghost use Rattle.gfp_frames.specs.Area.{packet_in};
 ghost use Rattle.gfp_frames.specs.Delivered.{areas_in, delivered};
 ghost use Rattle.gfp_frames.specs.Reader.{ReaderState, may_want, HasRead, news};
-ghost use Rattle.gfp_frames.specs.Steps.Reader.{kept, kept_some, three_bytes, hunts_after, slid, after_header, presync_after, sync_after, area_after, Goes, GoesOver, GoesTo, NoneBefore};
+ghost use Rattle.gfp_frames.specs.Steps.Reader.{kept, kept_some, three_bytes, hunts_after, slid, after_header, presync_after, sync_after, area_after, whole_area_after, Goes, GoesOver, GoesTo, NoneBefore};
 ghost use Rattle.gfp_frames.specs.Maker.{idle_bytes};
 
 use crate::area::packet_size;
@@ -235,6 +235,10 @@ impl GfpReader {
     {
         let mut at = self.pass_over(bytes);
         while at < bytes.len() {
+            let whole = self.take_whole_area(&bytes[at..]);
+            if whole > 0 {
+                return (at + whole, true);
+            }
             at += self.keep_some(&bytes[at..]);
             if at < bytes.len() {
                 let found = self.advance(bytes[at]);
@@ -246,6 +250,24 @@ impl GfpReader {
             }
         }
         (at, false)
+    }
+
+    // Takes the area in sync that stands whole at the front, where none of it came yet: how many bytes. It is
+    // descrambled from where it stands.
+    fn take_whole_area(&mut self, bytes: &[u8]) -> usize
+        ensures none { result ≡ 0 → self.new ≡ self.old }
+        ensures goes { 0 < result → GoesOver self.old (take result bytes.now) true self.new }
+        ensures within { result ≤ length bytes.now }
+        ensures size { 0 < result → (4 ≤ length self.new.area) × (length self.new.area ≤ 65535) }
+    {
+        let awaited = matches!(self.phase, Phase::SyncArea);
+        if awaited && self.held == 0 && self.wanted <= bytes.len() {
+            let size = self.wanted;
+            self.end_whole_area(&bytes[..size]);
+            size
+        } else {
+            0
+        }
     }
 
     // Passes what has no area at the front, as far as it is seen at once: how many bytes.
@@ -273,26 +295,29 @@ impl GfpReader {
     {
         let sync = matches!(self.phase, Phase::Sync);
         if sync && self.held == 0 && bytes.len() >= HEADER {
-            self.hold_three(bytes);
-            self.end_sync_header(bytes[3]);
+            self.end_whole_header(bytes);
             HEADER
         } else {
             0
         }
     }
 
-    // Keeps the first three bytes, where nothing is held: as `keep_some` does, but with no call for a copy.
-    fn hold_three(&mut self, bytes: &[u8])
+    // A header in SYNC came at once, where one wrong bit is corrected: it ends as if its last byte came behind the
+    // others.
+    fn end_whole_header(&mut self, bytes: &[u8])
         requires none { length self.old.held ≡ 0 }
         requires wanted { self.old.wanted ≡ 4 }
         requires some { 4 ≤ length bytes.now }
-        ensures { self.new ≡ kept_some self.old (take 3 bytes.now) }
+        ensures { let mid = kept_some self.old (take 3 bytes.now) in let last = slice_index bytes.now 3 in
+            self.new ≡ option_map_or (sync_after mid) (near_pli (header_in (mid.held ++ last ∷ []))) (slid mid last) }
     {
-        self.buffer[0] = bytes[0];
-        self.buffer[1] = bytes[1];
-        self.buffer[2] = bytes[2];
-        self.held = 3;
-        self.area = 0;
+        match corrected_pli(header_at(bytes, 0) ^ PATTERN) {
+            Some(pli) => self.await_frame(pli as usize, Phase::Sync, Phase::SyncArea),
+            None => {
+                self.keep_some(bytes);
+                self.slide(bytes[3]);
+            }
+        }
     }
 
     // Passes the idle frames at the front, where a header is awaited in sync: how many bytes.
@@ -522,6 +547,29 @@ impl GfpReader {
         self.area = size;
         descramble_front(&mut self.descrambler, &mut self.buffer, size);
     }
+
+    // An area in sync came at once, and stands plain at the front of the buffer.
+    fn end_whole_area(&mut self, area: &[u8])
+        requires size { length area.now ≡ self.old.wanted }
+        requires most { self.old.wanted ≤ 65535 }
+        ensures { self.new ≡ whole_area_after self.old area.now }
+    {
+        descramble_to_front(&mut self.descrambler, area, &mut self.buffer);
+        self.phase = Phase::Sync;
+        self.wanted = HEADER;
+        self.held = 0;
+        self.area = area.len();
+    }
+}
+
+// Descrambles an area into the front of the buffer.
+fn descramble_to_front(descrambler: &mut Descrambler, area: &[u8], buffer: &mut [u8])
+    requires { length area.now ≤ length buffer.old }
+    ensures bytes { buffer.new ≡ descrambled descrambler.old area.now ++ drop (length area.now) buffer.old }
+    ensures register { descrambler.new ≡ last_bits descrambler.old area.now }
+{
+    let (front, _) = buffer.split_at_mut(area.len());
+    descrambler.descramble_into(area, front);
 }
 
 // Descrambles the area at the front of the buffer.

@@ -156,7 +156,7 @@ plain_next got plain g rule bytes =
 
 -- ---- many bytes more
 
-older : (x : ℕ) (xs : List ℕ) → AreBytes (x ∷ xs) → AreBytes xs
+pub older : (x : ℕ) (xs : List ℕ) → AreBytes (x ∷ xs) → AreBytes xs
 older x xs bytes k = bytes (suc k)
 
 pub sent_on : (plain sent more : List ℕ) (r : ℕ) → HasSent plain sent r → AreBytes more → HasSent (plain ++ more) (sent ++ scrambled r more) (last_bits r (scrambled r more))

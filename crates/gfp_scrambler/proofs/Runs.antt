@@ -13,7 +13,7 @@ scrambled-append r [] ys = refl
 scrambled-append r (x ∷ xs) ys =
     let sent = bit_xor x (r / 2 ^ 35) in ap (λ rest. sent ∷ rest) (scrambled-append (shifted r sent) xs ys)
 
-descrambled-append : (r : ℕ) (xs ys : List ℕ) → descrambled r (xs ++ ys) ≡ descrambled r xs ++ descrambled (last_bits r xs) ys
+pub descrambled-append : (r : ℕ) (xs ys : List ℕ) → descrambled r (xs ++ ys) ≡ descrambled r xs ++ descrambled (last_bits r xs) ys
 unfolding descrambled last_bits
 descrambled-append r [] ys = refl
 descrambled-append r (x ∷ xs) ys = ap (λ rest. bit_xor x (r / 2 ^ 35) ∷ rest) (descrambled-append (shifted r x) xs ys)
@@ -78,25 +78,38 @@ last_sixteen s k r0 r last sent next s' s'' put more was after =
     last_eight s' (k + 8) r0 (last_bits r sent) last next s'' more (last_eight s k r0 r (last_bits r sent) sent s' put was refl) after
     ∙ ap (λ n. last_bits r0 (take n s'')) (sym both)
 
+-- the eight bytes that came from place k on, and those after them
+plain_split : (got : List ℕ) (k r last : ℕ) (plain : List ℕ) → plain ≡ descrambled r (take 8 (drop k got)) → last ≡ last_bits r (take 8 (drop k got))
+    → descrambled r (drop k got) ≡ plain ++ descrambled last (drop (k + 8) got)
+plain_split got k r last plain is after =
+    let eight = take 8 (drop k got) in
+    let rest = drop (k + 8) got in
+    ap (descrambled r) (eight_first got k) ∙ descrambled-append r eight rest
+    ∙ ap (λ y. y ++ descrambled (last_bits r eight) rest) (sym is)
+    ∙ ap (λ x. plain ++ descrambled x rest) (sym after)
+
+-- they are put plain where they stand in another list
+pub plain_over : (got s : List ℕ) (k r last : ℕ) (plain s' : List ℕ) → Puts s k plain s' → plain ≡ descrambled r (take 8 (drop k got)) → last ≡ last_bits r (take 8 (drop k got))
+    → take (k + 8) s' ++ descrambled last (drop (k + 8) got) ≡ take k s ++ descrambled r (drop k got)
+plain_over got s k r last plain s' put is after =
+    let left = descrambled last (drop (k + 8) got) in
+    ap (λ y. y ++ left) put.front
+    ∙ append_assoc (take k s) plain left
+    ∙ ap (λ y. take k s ++ y) (sym (plain_split got k r last plain is after))
+
 -- eight bytes came
 pub plain_eight : (s : List ℕ) (k r last : ℕ) (plain s' : List ℕ) → Puts s k plain s' → plain ≡ descrambled r (take 8 (drop k s)) → last ≡ last_bits r (take 8 (drop k s))
     → take (k + 8) s' ++ descrambled last (drop (k + 8) s') ≡ take k s ++ descrambled r (drop k s)
 plain_eight s k r last plain s' put is after =
-    let eight = take 8 (drop k s) in
-    let rest = drop (k + 8) s in
-    let split : descrambled r (drop k s) ≡ plain ++ descrambled last rest =
-    ap (descrambled r) (eight_first s k) ∙ descrambled-append r eight rest
-    ∙ ap (λ y. y ++ descrambled (last_bits r eight) rest) (sym is)
-    ∙ ap (λ x. plain ++ descrambled x rest) (sym after) in
-    ap (λ y. y ++ descrambled last (drop (k + 8) s')) put.front
-    ∙ ap (λ y. (take k s ++ plain) ++ descrambled last y) put.rest
-    ∙ append_assoc (take k s) plain (descrambled last rest)
-    ∙ ap (λ y. take k s ++ y) (sym split)
+    ap (λ y. take (k + 8) s' ++ descrambled last y) put.rest ∙ plain_over s s k r last plain s' put is after
+
+pub came_on : (got : List ℕ) (k r last : ℕ) → last ≡ last_bits r (take 8 (drop k got)) → last_bits last (drop (k + 8) got) ≡ last_bits r (drop k got)
+came_on got k r last after =
+    ap (λ x. last_bits x (drop (k + 8) got)) after
+    ∙ sym (last_bits-append r (take 8 (drop k got)) (drop (k + 8) got)) ∙ ap (last_bits r) (sym (eight_first got k))
 
 pub rest_came : (s : List ℕ) (k r last : ℕ) (plain s' : List ℕ) → Puts s k plain s' → last ≡ last_bits r (take 8 (drop k s)) → last_bits last (drop (k + 8) s') ≡ last_bits r (drop k s)
-rest_came s k r last plain s' put after =
-    ap (last_bits last) put.rest ∙ ap (λ x. last_bits x (drop (k + 8) s)) after
-    ∙ sym (last_bits-append r (take 8 (drop k s)) (drop (k + 8) s)) ∙ ap (last_bits r) (sym (eight_first s k))
+rest_came s k r last plain s' put after = ap (last_bits last) put.rest ∙ came_on s k r last after
 
 -- the end of a list, put in its place
 pub end_put : (s : List ℕ) (k : ℕ) (ys : List ℕ) → k ≤ length s → length ys ≡ length s - k → put_mid k (length s - k) s ys ≡ take k s ++ ys

@@ -43,6 +43,17 @@ sent_more s k r h =
     ∙ ap (λ rest. take k s ++ (v ∷ scrambled (shifted r v) rest)) (rest_same s k v)
     ∙ ap (λ y. take k s ++ y) (sym (ap (scrambled r) (drop-cons s k 0 h) ∙ scrambled-cons r (get_or s k 0) (drop (suc k) s)))
 
+-- the byte that came at place k is put plain there in another list
+pub over_more : (got s : List ℕ) (k r : ℕ) → k < length got → k < length s
+    → take (k + 1) (set s k (bit_xor (get_or got k 0) (r / 2 ^ 35))) ++ descrambled (shifted r (get_or got k 0)) (drop (k + 1) got)
+    ≡ take k s ++ descrambled r (drop k got)
+over_more got s k r came h =
+    let v = bit_xor (get_or got k 0) (r / 2 ^ 35) in
+    let next = shifted r (get_or got k 0) in
+    grown s k v (descrambled next (drop (k + 1) got)) h
+    ∙ ap (λ n. take k s ++ (v ∷ descrambled next (drop n got))) (add-one k)
+    ∙ ap (λ y. take k s ++ y) (sym (ap (descrambled r) (drop-cons got k 0 came) ∙ descrambled-cons r (get_or got k 0) (drop (suc k) got)))
+
 pub plain_more : (s : List ℕ) (k r : ℕ) → k < length s
     → take (k + 1) (set s k (bit_xor (get_or s k 0) (r / 2 ^ 35))) ++ descrambled (shifted r (get_or s k 0)) (drop (k + 1) (set s k (bit_xor (get_or s k 0) (r / 2 ^ 35))))
     ≡ take k s ++ descrambled r (drop k s)
@@ -80,10 +91,20 @@ sent_all s k r e = all_done s (scrambled r (drop k s)) k e (ap (scrambled r) (no
 pub plain_all : (s : List ℕ) (k r : ℕ) → k ≡ length s → take k s ++ descrambled r (drop k s) ≡ s
 plain_all s k r e = all_done s (descrambled r (drop k s)) k e (ap (descrambled r) (nothing_left s k e) ∙ descrambled-none r)
 
+-- as many plain bytes as came: they are all
+pub over_all : (got s : List ℕ) (k r : ℕ) → k ≡ length got → length s ≡ length got → take k s ++ descrambled r (drop k got) ≡ s
+over_all got s k r e same =
+    all_done s (descrambled r (drop k got)) k (e ∙ sym same) (ap (descrambled r) (nothing_left got k e) ∙ descrambled-none r)
+
 pub last_all : (s : List ℕ) (k r : ℕ) → k ≡ length s → last_bits r (drop k s) ≡ r
 last_all s k r e = ap (last_bits r) (nothing_left s k e) ∙ last_bits-none r
 
 -- the rest that came begins with the next byte
+pub came_next : (got : List ℕ) (k r : ℕ) → k < length got → last_bits (shifted r (get_or got k 0)) (drop (k + 1) got) ≡ last_bits r (drop k got)
+unfolding last_bits
+came_next got k r h =
+    ap (λ n. last_bits (shifted r (get_or got k 0)) (drop n got)) (add-one k) ∙ sym (ap (last_bits r) (drop-cons got k 0 h))
+
 pub last_rest : (s : List ℕ) (k r v : ℕ) → k < length s → last_bits (shifted r (get_or s k 0)) (drop (k + 1) (set s k v)) ≡ last_bits r (drop k s)
 unfolding last_bits
 last_rest s k r v h = ap (last_bits (shifted r (get_or s k 0))) (rest_same s k v) ∙ sym (ap (last_bits r) (drop-cons s k 0 h))

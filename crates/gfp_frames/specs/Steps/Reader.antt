@@ -70,6 +70,16 @@ area_after reader byte = record {
   area = descrambled reader.register (reader.held ++ byte ∷ []);
 }
 
+-- an area of which nothing is held came at once
+abbrev pub whole_area_after : ReaderState → List ℕ → ReaderState
+whole_area_after reader bytes = record {
+  phase = Sync;
+  wanted = 4;
+  held = [];
+  register = last_bits reader.register bytes;
+  area = descrambled reader.register bytes;
+}
+
 -- what was to come with this byte came, or is to come still; and nothing comes of itself
 pub record Goes (old : ReaderState) (byte : ℕ) (found : Bool) (new : ReaderState) : Type 0 where
   pub each : (more : List ℕ) → to_come old (byte ∷ more) ≡ news found new ++ to_come new more

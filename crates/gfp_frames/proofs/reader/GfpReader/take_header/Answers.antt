@@ -1,6 +1,7 @@
 use Rattle.std.proofs.Common.{◌≡◌, [], take, length, true, ap, sym, ◌∙◌, refl, subst, arith}
 use Rattle.std.proofs.lemmas.Bool.{false≢true}
 use Rattle.gfp_frames.specs.Reader.{ReaderState, may_want}
+use Rattle.gfp_frames.specs.Steps.Reader.{kept_some}
 use Rattle.gfp_frames.specs.declared.phase.Phase.TheVariants.{Sync}
 use Rattle.gfp_frames.proofs.Reading.{held_size, four_in_sync}
 use Rattle.gfp_frames.proofs.Over.{over_header, over_none, nothing_comes}
@@ -17,8 +18,8 @@ returns-then-bytes-ge-HEADER-clause-goes c =
     ] in
     let four : in_view.wanted ≡ 4 = four_in_sync in_view.phase in_view.wanted phase c.self.invariant.3 in
     let size : length old.held ≡ in_view.held = held_size in_view.phase in_view.held in_view.wanted in_view.buffer.items old.held c.self.invariant.3 (ap (λ s. s.held) c.self.view_is) c.self.invariant.1 (omega arith) in
-    over_header old c.hold_three.new.self c.end_sync_header.new.self c.args.bytes.now (sym (ap (λ (s : ReaderState). s.phase) c.self.view_is) ∙ phase)
-    (sym (ap (λ (s : ReaderState). s.wanted) c.self.view_is) ∙ four) (size ∙ c.if-self-eq0.true) c.if-bytes-ge-HEADER.true c.hold_three.ensures c.end_sync_header.ensures
+    over_header old (kept_some old (take 3 c.args.bytes.now)) c.end_whole_header.new.self c.args.bytes.now (sym (ap (λ (s : ReaderState). s.phase) c.self.view_is) ∙ phase)
+    (sym (ap (λ (s : ReaderState). s.wanted) c.self.view_is) ∙ four) (size ∙ c.if-self-eq0.true) c.if-bytes-ge-HEADER.true refl c.end_whole_header.ensures
 
 pub returns-else-sync-clause-goes : goal.returns-else-sync-clause-goes
 returns-else-sync-clause-goes c =
