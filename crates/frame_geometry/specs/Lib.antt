@@ -1,3 +1,4 @@
 pub mod Loans
 pub mod PayloadParity
 pub mod Places
+pub mod Shown

@@ -1,30 +1,35 @@
 // A frame: its bytes, row by row.
-ghost use Rattle.std.specs.Prelude.{◌≡◌, ℕ, ◌*◌, ◌≤◌, length, IfOk, slice_index, slice_set, vec_len};
+ghost use Rattle.std.specs.Prelude.{◌≡◌, ℕ, ◌*◌, ◌≤◌, length, IfOk, IfSome, None, slice_index, slice_set, vec_len};
 ghost use Rattle.std.specs.Vec.{vec_capacity};
+ghost use Rattle.frame_geometry.specs.Shown.{shown_or};
 ghost use Rattle.otn_base.specs.declared.limits.TheConstants.{OVERHEAD_COLUMNS};
 
-use otn_base::Memory;
 use otn_base::limits::ROWS;
+use otn_base::{Memory, SharedBytes};
 use std::alloc::Global;
 use std::marker::Model;
 use std::mem;
 
 /// A frame of four rows of `COLS` columns (G.709 clause 11.1): 4,080 of them for a frame of an OTU2 or an OTU3 with its
 /// FEC field, 3,824 for an ODU frame. It is seen as the list of its bytes, row by row. Rows and columns count from 1.
+/// A frame may show bytes that others hold too, until it is written to.
 #[derive(Drop)]
 pub struct Frame<const COLS: usize> {
     pub(crate) bytes: Vec<u8>,
+    // What the frame shows in place of its own bytes.
+    pub(crate) shown: Option<SharedBytes>,
 }
 
 impl<const COLS: usize> Model for Frame<COLS> {
     ghost use Rattle.std.specs.Prelude.{◌≡◌, ℕ, ◌*◌, List, length};
     ghost use Rattle.frame_geometry.specs.Places.{IsWidth};
+    ghost use Rattle.frame_geometry.specs.Shown.{shown_or};
 
     ghost Value = { List ℕ };
 
-    ghost view = { λ f. f.bytes.items };
+    ghost view = { λ f. shown_or f.shown f.bytes.items };
 
-    ghost invariant = { λ f. (length f.bytes.items ≡ 4 * COLS) × IsWidth COLS };
+    ghost invariant = { λ f. (length (shown_or f.shown f.bytes.items) ≡ 4 * COLS) × IsWidth COLS × (length f.bytes.items ≡ 4 * COLS) };
 }
 
 impl<const COLS: usize> Frame<COLS> {
@@ -41,6 +46,7 @@ impl<const COLS: usize> Frame<COLS> {
     {
         Ok(Frame {
             bytes: vec![in alloc; 0u8; ROWS * COLS]?,
+            shown: None,
         })
     }
 
@@ -52,7 +58,7 @@ impl<const COLS: usize> Frame<COLS> {
         requires col_high { col ≤ COLS }
         ensures { result ≡ slice_index self.now (place_of COLS row col) }
     {
-        let bytes = &self.bytes;
+        let bytes = self.as_bytes();
         bytes[COLS * (row as usize - 1) + (col as usize - 1)]
     }
 
@@ -64,7 +70,7 @@ impl<const COLS: usize> Frame<COLS> {
         requires col_high { col ≤ OVERHEAD_COLUMNS }
         ensures { result ≡ slice_index self.now (place_of COLS row col) }
     {
-        let bytes = &self.bytes;
+        let bytes = self.as_bytes();
         let row_before = COLS * (row as usize - 1);
         bytes[row_before + col as usize - 1]
     }
@@ -78,6 +84,7 @@ impl<const COLS: usize> Frame<COLS> {
         ensures written { self.new ≡ slice_set self.old (place_of COLS row col) byte }
         ensures size { length self.new ≡ 4 * COLS }
     {
+        take_over(&mut self.bytes, &mut self.shown);
         self.bytes[COLS * (row as usize - 1) + (col as usize - 1)] = byte;
     }
 
@@ -86,6 +93,7 @@ impl<const COLS: usize> Frame<COLS> {
         ensures size { length self.new ≡ 4 * COLS }
         ensures zero { (place : ℕ) → slice_index self.new place ≡ 0 }
     {
+        self.shown = None;
         self.bytes.fill(0);
     }
 
@@ -94,6 +102,7 @@ impl<const COLS: usize> Frame<COLS> {
         requires { length bytes.now ≡ 4 * COLS }
         ensures { self.new ≡ bytes.now }
     {
+        self.shown = None;
         self.bytes.copy_from_slice(bytes);
     }
 
@@ -104,7 +113,23 @@ impl<const COLS: usize> Frame<COLS> {
         ensures bytes { bytes.new.items ≡ self.old }
         ensures room { 4 * COLS ≤ vec_capacity bytes.new }
     {
+        take_over(&mut self.bytes, &mut self.shown);
         mem::swap(&mut self.bytes, bytes);
+    }
+
+    /// Shows these bytes from here on, row by row, until the frame is written to or lets go of them.
+    pub fn show(&mut self, bytes: SharedBytes)
+        requires { length bytes ≡ 4 * COLS }
+        ensures { self.new ≡ bytes }
+    {
+        self.shown = Some(bytes);
+    }
+
+    /// Lets go of bytes that it shows. What the frame holds then is of no account.
+    pub fn let_go(&mut self)
+        ensures size { length self.new ≡ 4 * COLS }
+    {
+        self.shown = None;
     }
 
     /// All bytes, row by row.
@@ -113,7 +138,10 @@ impl<const COLS: usize> Frame<COLS> {
         ensures size { length result.now ≡ 4 * COLS }
         ensures width { IsWidth COLS }
     {
-        &self.bytes
+        match &self.shown {
+            Some(shown) => shown.as_bytes(),
+            None => &self.bytes,
+        }
     }
 
     /// All bytes, row by row, to be written.
@@ -124,6 +152,18 @@ impl<const COLS: usize> Frame<COLS> {
         ensures size { length result.now ≡ 4 * COLS }
         ensures width { IsWidth COLS }
     {
+        take_over(&mut self.bytes, &mut self.shown);
         &mut self.bytes
+    }
+}
+
+// Takes over bytes that are shown in place of these, and shows none.
+pub(crate) fn take_over(bytes: &mut Vec<u8>, shown: &mut Option<SharedBytes>)
+    requires { IfSome shown.old (λ s. length s ≡ vec_len bytes.old) }
+    ensures bytes { bytes.new.items ≡ shown_or shown.old bytes.old.items }
+    ensures none { shown.new ≡ None }
+{
+    if let Some(shown) = shown.take() {
+        bytes.copy_from_slice(shown.as_bytes());
     }
 }

@@ -7,6 +7,7 @@ ghost use Rattle.frame_geometry.specs.Loans.{after_row_loan};
 ghost use Rattle.otn_base.specs.declared.limits.TheConstants.{PAYLOAD_COLUMNS};
 
 use crate::Frame;
+use crate::frame::take_over;
 use otn_base::limits::{OVERHEAD_COLUMNS, PAYLOAD_COLUMNS};
 
 impl<const COLS: usize> Frame<COLS> {
@@ -17,7 +18,7 @@ impl<const COLS: usize> Frame<COLS> {
         ensures bytes { result.now ≡ payload_row_of COLS row self.now }
         ensures size { length result.now ≡ PAYLOAD_COLUMNS }
     {
-        let bytes = &self.bytes;
+        let bytes = self.as_bytes();
         let start = COLS * (row as usize - 1) + OVERHEAD_COLUMNS;
         &bytes[start..start + PAYLOAD_COLUMNS]
     }
@@ -33,6 +34,7 @@ impl<const COLS: usize> Frame<COLS> {
         ensures frame { length self.old ≡ 4 * COLS }
         ensures width { IsWidth COLS }
     {
+        take_over(&mut self.bytes, &mut self.shown);
         let bytes = &mut self.bytes;
         let start = COLS * (row as usize - 1) + OVERHEAD_COLUMNS;
         bytes.slice_mut(start..start + PAYLOAD_COLUMNS)

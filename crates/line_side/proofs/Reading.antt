@@ -1,8 +1,9 @@
 -- What a read of a frame says.
-use Rattle.std.proofs.Common.{◌≡◌, ◌≢◌, ◌<◌, ℕ, false, List, [], length, take, arith, refl, sym, ap, ◌∙◌}
+use Rattle.std.proofs.Common.{◌≡◌, ◌≢◌, ◌<◌, ◌≤◌, inl, ℕ, false, List, [], length, take, arith, refl, sym, ap, ◌∙◌}
 use Rattle.std.proofs.lemmas.List.{length-take-le}
 use Rattle.otn_ports.specs.Views.{State, Empty, Live, Dead, InView}
-use Rattle.otn_ports.specs.Reads.{Reads, HasEnded, state_after}
+use Rattle.otn_ports.specs.AtHand.{place_at_hand}
+use Rattle.otn_ports.specs.Reads.{Reads, Takes, HasEnded, state_after}
 use Rattle.otn_ports.specs.Given.{Gave}
 use Rattle.otn_ports.proofs.GivenLaws.{GaveBy, read_gave}
 use Rattle.otn_ports.specs.declared.in_place.Reading.{Reading}
@@ -125,3 +126,22 @@ pub not_dead : {P : Type 0} (source : Ghosts P) (is : InPlaceOf P) → ((port : 
 not_dead source place.Empty other e = cc
 not_dead source (place.Live port n) other e = cc
 not_dead source (place.Dead port n) other e = other port n refl
+
+-- a place that has bytes at hand is live
+pub hand_live : {P : Type 0} (source : Ghosts P) (p : InPlaceOf P) → 16320 ≤ length (place_at_hand source p) → (in_view source p).state ≡ Live
+hand_live source place.Empty some = absurd (omega (arith, some))
+hand_live source (place.Live port n) some = refl
+hand_live source (place.Dead sealed n) some = absurd (omega (arith, some))
+
+-- a frame that was at hand whole, and is gone past
+pub frame_at_hand : (was is : InView) (hand frame : List ℕ) → was.state ≡ Live → 16320 ≤ length hand → Takes was (take 16320 hand) is
+    → is.state ≡ was.state → is.ended ≡ was.ended → is.faults ≡ was.faults → frame ≡ take 16320 hand → FrameRead false Full was frame is
+frame_at_hand was is hand frame live many takes state ended faults shown = record {
+  further = take 16320 hand;
+  gave = record { takes = takes; state = inl (state, faults); idle = λ rests. absurd (rests live) };
+  whole = λ _. (shown, length-take-le 16320 hand many);
+  short = λ other. absurd (other refl);
+  end = λ k e. absurd (cc);
+  lost = λ e. absurd (cc);
+  unended = λ _. ended;
+}

@@ -9,7 +9,7 @@ use crate::mask::LineMask;
 use frame_geometry::Frame;
 use frame_geometry::overhead::{MFAS_COLUMN, SECTION_ROW};
 use multiframe::starts;
-use otn_base::limits::LINE_COLUMNS;
+use otn_base::limits::{LINE_COLUMNS, LINE_FRAME_BYTES};
 use otn_base::{LineKind, Memory};
 use otn_ports::{InPlaceOf, Reading, Source};
 use std::alloc::Global;
@@ -59,8 +59,24 @@ fn read_frame<P: Source>(
     }
 }
 
-// Reads a frame as it stands in the file.
+// Reads a frame as it stands in the file. It lets go of what it showed first, so that its place may read on where that
+// stands. A frame that the place has at hand whole is shown where it stands.
 fn read_bytes<P: Source>(place: &mut InPlaceOf<P>, frame: &mut Frame<LINE_COLUMNS>) -> Reading
+    ensures { FrameRead false result (in_view P.Source place.old) frame.new (in_view P.Source place.new) }
+{
+    frame.let_go();
+    match place.share(LINE_FRAME_BYTES) {
+        Some(bytes) => {
+            place.pass(LINE_FRAME_BYTES);
+            frame.show(bytes);
+            Reading::Full
+        }
+        None => read_into(place, frame),
+    }
+}
+
+// Reads a frame into its own bytes.
+fn read_into<P: Source>(place: &mut InPlaceOf<P>, frame: &mut Frame<LINE_COLUMNS>) -> Reading
     ensures { FrameRead false result (in_view P.Source place.old) frame.new (in_view P.Source place.new) }
 {
     let reading = place.read_full(frame.as_bytes_mut());
@@ -202,6 +218,7 @@ impl<const COUNTS: usize> LineReader<COUNTS> {
     {
         if self.is_ahead {
             mem::swap(&mut self.hand, &mut self.next);
+            self.next.let_go();
             self.is_ahead = false;
             self.frames = self.frames.saturating_add(1);
             self.seen.take(&self.hand);

@@ -136,7 +136,8 @@ fn small_reads_go_by_blocks(rt: HostRuntime) -> Result<(), Fail> {
     Ok(())
 }
 
-// A reader that gives as much as it is asked for, and counts its calls and what the last one asked.
+// A reader that gives as much as it is asked for, each byte the number of the call, and counts its calls and what the
+// last one asked.
 #[derive(Drop)]
 struct Filling {
     calls: Rc<Cell<u8>>,
@@ -147,6 +148,7 @@ impl Read for Filling {
     fn read(&mut self, into: &mut [u8]) -> io::Result<usize> {
         self.calls.set(self.calls.get().saturating_add(1));
         self.asked.set(into.len());
+        into.fill(self.calls.get());
         Ok(into.len())
     }
 }
@@ -166,6 +168,40 @@ fn a_line_is_read_by_four_frames(rt: HostRuntime) -> Result<(), Fail> {
         assert_eq!(rt; calls.get(), made);
         assert_eq!(rt; asked.get(), 4 * LINE_FRAME_BYTES);
     }
+    Ok(())
+}
+
+// A frame at hand is shared where it stands. While it is held on to, its source asks for what is read, and puts nothing
+// into the block.
+#[test]
+fn what_is_held_on_to_stays(rt: HostRuntime) -> Result<(), Fail> {
+    let calls = counted(rt.alloc())?;
+    let asked = Rc::new(rt.alloc(), Cell::new(0_usize))?;
+    let mut source = ReaderSource::over(Filling {
+        calls: calls.clone()?,
+        asked: asked.clone()?,
+    });
+    source.read_by_blocks(rt.alloc(), ReadBlock::Frames);
+    let mut place = InPlaceOf::Live(source, 0);
+    let mut frame = zeros(rt.alloc(), LINE_FRAME_BYTES)?;
+    assert!(rt; place.share(LINE_FRAME_BYTES).is_none());
+    assert_eq!(rt; place.read_full(&mut frame), Reading::Full);
+    assert!(rt; place.share(3 * LINE_FRAME_BYTES + 1).is_none());
+    let held = place.share(LINE_FRAME_BYTES);
+    assert_eq!(rt;
+        pass_some(&mut place, 4 * LINE_FRAME_BYTES),
+        3 * LINE_FRAME_BYTES
+    );
+    assert_eq!(rt; place.read_full(&mut frame), Reading::Full);
+    assert_eq!(rt; (calls.get(), asked.get()), (2, LINE_FRAME_BYTES));
+    assert!(rt; frame.iter().all(|byte| *byte == 2));
+    assert_eq!(rt;
+        held.is_some_and(|bytes| bytes.as_bytes().iter().all(|byte| *byte == 1)),
+        true
+    );
+    assert_eq!(rt; place.read_full(&mut frame), Reading::Full);
+    assert_eq!(rt; (calls.get(), asked.get()), (3, 4 * LINE_FRAME_BYTES));
+    assert!(rt; frame.iter().all(|byte| *byte == 3));
     Ok(())
 }
 

@@ -1,6 +1,6 @@
 //! What every layer of the device shares: kinds of lines and of tributaries, lists of tributary slots, trail traces,
-//! the names of ports, the answer for want of memory, the bytes of one turn, bytes at the end or the front of a buffer,
-//! and the numbers of the formats.
+//! the names of ports, the answer for want of memory, the bytes of one turn, bytes that several hold, bytes at the end
+//! or the front of a buffer, and the numbers of the formats.
 #![tactic(auto)]
 
 mod buffer;
@@ -9,6 +9,7 @@ mod kind;
 pub mod limits;
 mod line_kind;
 mod memory;
+mod shared;
 mod slots;
 mod trace;
 
@@ -17,5 +18,6 @@ pub use burst::Burst;
 pub use kind::{Kind, PortName};
 pub use line_kind::LineKind;
 pub use memory::Memory;
+pub use shared::SharedBytes;
 pub use slots::Slots;
 pub use trace::Trace;

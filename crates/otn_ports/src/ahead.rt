@@ -1,15 +1,18 @@
 // What a source over a reader has read ahead of what it gave.
-ghost use Rattle.std.specs.Prelude.{◌≡◌, ◌<◌, ◌≤◌, ◌++◌, [], false, true, None, IfOk, IfSome, IsSome, OnErr, length, drop, take, min, vec_len};
+ghost use Rattle.std.specs.Prelude.{◌≡◌, ◌<◌, ◌≤◌, ◌++◌, [], false, true, None, IfOk, IfErr, IfSome, IsSome, OnErr, length, drop, take, min, vec_len};
 ghost use Rattle.std.specs.Io.KnownBytes.{IsAtEnd, Keeps, ReadConsumes, prepend_known};
 ghost use Rattle.otn_ports.specs.Adapters.{IsFault};
+ghost use Rattle.otn_ports.specs.Fronts.{AreFirst};
 ghost use Rattle.otn_ports.specs.ReadAhead.{ReadAhead, nothing_ahead, IsRefusal, RefusalAfter};
 
 use crate::Failed;
 use crate::system::{read_some, refuse};
+use otn_base::SharedBytes;
 use otn_base::limits::LINE_FRAME_BYTES;
 use std::alloc::{AllocError, Global};
 use std::io::{ErrorKind, Read};
 use std::marker::Model;
+use std::rc::Rc;
 
 // Bytes that a reader is asked for at a time: four frames of a line, or as many of a text as are best.
 const FRAMES_BYTES: usize = 4 * LINE_FRAME_BYTES;
@@ -36,11 +39,14 @@ impl ReadBlock {
     }
 }
 
+// A block of bytes, parts of which are shared with whoever reads. While one is held on to, nothing is read into it.
+type Block = Rc<Vec<u8>, Global>;
+
 /// The bytes at hand, which stand in a block, and a refusal that no read has answered yet. The block is made at the
 /// first look ahead, or where each read is to go by it.
 #[derive(Drop)]
 pub(crate) struct Ahead {
-    block: Option<Vec<u8>>,
+    block: Option<Block>,
     from: usize,
     to: usize,
     refused: Option<ErrorKind>,
@@ -49,13 +55,14 @@ pub(crate) struct Ahead {
 }
 
 impl Model for Ahead {
+    ghost use Rattle.std.specs.Prelude.{option_map};
     ghost use Rattle.otn_ports.specs.ReadAhead.{ReadAhead, part_of, IsWithin, IsRefusal};
 
     ghost Value = { ReadAhead };
 
-    ghost view = { λ a. record { bytes = part_of a.block a.from a.to; refused = a.refused } };
+    ghost view = { λ a. record { bytes = part_of (option_map (λ b. b.value) a.block) a.from a.to; refused = a.refused } };
 
-    ghost invariant = { λ a. IsWithin a.block a.from a.to × IsRefusal a.refused };
+    ghost invariant = { λ a. IsWithin (option_map (λ b. b.value) a.block) a.from a.to × IsRefusal a.refused };
 }
 
 impl Ahead {
@@ -90,8 +97,22 @@ impl Ahead {
         ensures { result.now ≡ self.now.bytes }
     {
         match &self.block {
-            Some(block) => &block[self.from..self.to],
+            Some(block) => &block.as_ref()[self.from..self.to],
             None => &[],
+        }
+    }
+
+    /// The first bytes at hand, so many of them, to be held on to. None where there are fewer.
+    #[tactic(auto, using(crate::proofs::AheadLaws::first_of_part))]
+    pub(crate) fn share(&self, n: usize) -> Option<SharedBytes>
+        ensures { AreFirst result n self.now.bytes }
+    {
+        match &self.block {
+            Some(block) if n <= self.to - self.from => {
+                SharedBytes::of(block, self.from, self.from + n)
+            }
+            Some(_) => None,
+            None => None,
         }
     }
 
@@ -117,7 +138,7 @@ impl Ahead {
             return;
         }
         if let Some(block) = block_of(alloc, self.block.take()) {
-            *self = read_ahead(reader, block, self.each);
+            self.go_ahead(reader, block);
         }
     }
 
@@ -156,12 +177,33 @@ impl Ahead {
             return false;
         }
         match self.block.take() {
-            Some(block) if many < block.len() => {
-                *self = read_ahead(reader, block, true);
-                self.bytes().is_empty() && self.refused.is_none()
+            Some(block) if many < block.as_ref().len() => {
+                self.go_ahead(reader, block) && self.bytes().is_empty() && self.refused.is_none()
             }
             block => {
                 self.block = block;
+                false
+            }
+        }
+    }
+
+    // One read of a reader into this block, where nobody holds on to a part of it. Says whether there was one.
+    fn go_ahead<R: Read>(&mut self, reader: &mut R, block: Block) -> bool
+        requires room { 0 < vec_len block.value }
+        requires none { self.old ≡ nothing_ahead }
+        ensures bytes { Keeps (R.remaining reader.old) (prepend_known self.new.bytes (R.remaining reader.new)) }
+        ensures alone { 0 < length self.new.bytes → self.new.refused ≡ None }
+        ensures end { result ≡ true → self.new ≡ nothing_ahead → IsAtEnd (R.remaining reader.new) }
+    {
+        match read_ahead(reader, block, self.each) {
+            Ok(ahead) => {
+                *self = ahead;
+                true
+            }
+            Err(block) => {
+                self.from = 0;
+                self.to = 0;
+                self.block = Some(block);
                 false
             }
         }
@@ -213,37 +255,38 @@ impl Ahead {
     }
 }
 
-// What one read of a reader puts at hand. A refusal is kept.
-fn read_ahead<R: Read>(reader: &mut R, mut block: Vec<u8>, each: bool) -> Ahead
-    requires room { 0 < vec_len block }
-    ensures alone { 0 < length result.bytes → result.refused ≡ None }
-    ensures bytes { Keeps (R.remaining reader.old) (prepend_known result.bytes (R.remaining reader.new)) }
-    ensures end { result ≡ nothing_ahead → IsAtEnd (R.remaining reader.new) }
+// What one read of a reader puts at hand. A refusal is kept. Where somebody holds on to a part of the block, nothing is
+// read, and the block comes back.
+fn read_ahead<R: Read>(reader: &mut R, mut block: Block, each: bool) -> Result<Ahead, Block>
+    requires room { 0 < vec_len block.value }
+    ensures alone { IfOk result (λ ahead. 0 < length ahead.bytes → ahead.refused ≡ None) }
+    ensures bytes { IfOk result (λ ahead. Keeps (R.remaining reader.old)
+        (prepend_known ahead.bytes (R.remaining reader.new))) }
+    ensures end { IfOk result (λ ahead. ahead ≡ nothing_ahead → IsAtEnd (R.remaining reader.new)) }
+    ensures held { IfErr result (λ same. (0 < vec_len same.value) × (reader.new ≡ reader.old)) }
 {
     let mut refused = None;
-    let to = match read_some(reader, &mut refused, &mut block) {
-        Ok(n) => n,
-        Err(Failed) => return Ahead {
-            block: Some(block),
-            from: 0,
-            to: 0,
-            refused,
-            each,
-        },
+    let Some(bytes) = Rc::get_mut(&mut block) else {
+        return Err(block);
     };
-    Ahead {
+    let answer = read_some(reader, &mut refused, bytes);
+    let (to, refused) = match answer {
+        Ok(n) => (n, None),
+        Err(Failed) => (0, refused),
+    };
+    Ok(Ahead {
         block: Some(block),
         from: 0,
         to,
-        refused: None,
+        refused,
         each,
-    }
+    })
 }
 
 // The block to read into: the one that was made, or a new one.
-fn block_of(alloc: Global, block: Option<Vec<u8>>) -> Option<Vec<u8>>
-    requires { IfSome block (λ b. 0 < vec_len b) }
-    ensures { IfSome result (λ b. 0 < vec_len b) }
+fn block_of(alloc: Global, block: Option<Block>) -> Option<Block>
+    requires { IfSome block (λ b. 0 < vec_len b.value) }
+    ensures { IfSome result (λ b. 0 < vec_len b.value) }
 {
     match block {
         Some(block) => Some(block),
@@ -252,8 +295,11 @@ fn block_of(alloc: Global, block: Option<Vec<u8>>) -> Option<Vec<u8>>
 }
 
 // So many bytes.
-fn room(alloc: Global, n: usize) -> Result<Vec<u8>, AllocError>
-    ensures { IfOk result (λ bytes. vec_len bytes ≡ n) }
+fn room(alloc: Global, n: usize) -> Result<Block, AllocError>
+    ensures { IfOk result (λ block. vec_len block.value ≡ n) }
 {
-    vec![in alloc; 0u8; n]
+    match Rc::new(alloc, vec![in alloc; 0u8; n]?) {
+        Ok(block) => Ok(block),
+        Err(_) => Err(AllocError),
+    }
 }

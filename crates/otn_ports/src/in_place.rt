@@ -1,12 +1,13 @@
 // A place for an input: it is empty, its port is live, or its port has failed and is called no more.
 ghost use Rattle.std.specs.Prelude.{◌≡◌, ◌≢◌, ◌<◌, ◌≤◌, length, take};
-ghost use Rattle.otn_ports.specs.Fronts.{IsFront};
+ghost use Rattle.otn_ports.specs.Fronts.{IsFront, AreFirst};
 ghost use Rattle.otn_ports.specs.InPlace.{dead_in};
 ghost use Rattle.otn_ports.specs.Retiring.{retired_in};
 ghost use Rattle.otn_ports.specs.Reads.{Reads, Takes, state_after, idle_reading};
 ghost use Rattle.otn_ports.specs.Views.{Live, Dead};
 
 use crate::{InPort, Sealed, Source, read_whole};
+use otn_base::SharedBytes;
 use std::alloc::Global;
 use std::mem;
 
@@ -91,6 +92,18 @@ impl<P: Source> InPlaceOf<P> {
             port.peek()
         } else {
             &[]
+        }
+    }
+
+    /// Shares the first bytes at hand, so many of them, with whoever holds on to them. None where there are fewer, or
+    /// where the port shares none; a place that is not live has none.
+    pub fn share(&self, n: usize) -> Option<SharedBytes>
+        ensures first { AreFirst result n (place_at_hand P.Source self.now) }
+    {
+        if let InPlaceOf::Live(port, _) = self {
+            port.share(n)
+        } else {
+            None
         }
     }
 

@@ -5,6 +5,7 @@ ghost use Rattle.otn_ports.specs.Ports.{in_at_hand, in_left, in_ended, in_faults
 ghost use Rattle.otn_ports.specs.Reads.{HasEnded, ended_after};
 
 use crate::{Failed, MemSource, Source};
+use otn_base::SharedBytes;
 use std::alloc::Global;
 
 /// What an input place holds. Each call on it, and each of its meanings, is that of what it holds.
@@ -54,6 +55,13 @@ impl Source for InPort {
         match self {
             InPort::Boxed(source) => source.peek(),
             InPort::Held(_) => &[],
+        }
+    }
+
+    fn share(&self, n: usize) -> Option<SharedBytes> {
+        match self {
+            InPort::Boxed(source) => source.share(n),
+            InPort::Held(_) => None,
         }
     }
 

@@ -6,6 +6,7 @@ ghost use Rattle.otn_ports.specs.Reads.{ended_after};
 use crate::ahead::{Ahead, ReadBlock};
 use crate::system::{count, refuse};
 use crate::{Failed, Source};
+use otn_base::SharedBytes;
 use std::alloc::Global;
 use std::fs::File;
 use std::io::{ErrorKind, Read};
@@ -137,6 +138,10 @@ impl<R: Read + Drop> Source for ReaderSource<R> {
         ensures { result.now ≡ reader_at_hand self.now }
     {
         self.ahead.bytes()
+    }
+
+    fn share(&self, n: usize) -> Option<SharedBytes> {
+        self.ahead.share(n)
     }
 
     #[tactic(auto, using(crate::proofs::AheadLaws::consumes_front))]

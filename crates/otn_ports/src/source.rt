@@ -1,9 +1,10 @@
 // A port that gives bytes, and may fail at any call.
 ghost use Rattle.std.specs.Prelude.{◌≡◌, ◌<◌, ◌≤◌, ℕ, Bool, false, List, [], Option, length, take, IfOk, OnOk, OnErr, Ok};
-ghost use Rattle.otn_ports.specs.Fronts.{IsFront};
+ghost use Rattle.otn_ports.specs.Fronts.{IsFront, AreFirst};
 ghost use Rattle.otn_ports.specs.Bytes.{before, read_by, HasFailed};
 ghost use Rattle.otn_ports.specs.Reads.{HasEnded, ended_after};
 
+use otn_base::SharedBytes;
 use std::alloc::Global;
 
 /// A call of a port failed.
@@ -55,6 +56,14 @@ pub trait Source: Drop {
         ensures front { IsFront result.now (at_hand self.now) }
     {
         &[]
+    }
+
+    /// Shares the first bytes at hand, so many of them, with whoever holds on to them. None where there are fewer, or
+    /// where the source shares none.
+    fn share(&self, n: usize) -> Option<SharedBytes>
+        ensures first { AreFirst result n (at_hand self.now) }
+    {
+        None
     }
 
     /// Goes past so many of the bytes at hand, as a read does that gives them.

@@ -2,6 +2,7 @@
 ghost use Rattle.program_words.specs.Ports.{input_at_hand, input_ended, input_faults, input_left, is_input_boxed};
 ghost use Rattle.program_words.specs.Ports.{is_output_boxed, output_faults, output_got, output_keeps};
 
+use otn_base::SharedBytes;
 use otn_ports::{Failed, Sink, Source, Written};
 use pcap_packets::{PcapSink, PcapSource};
 use std::alloc::Global;
@@ -43,6 +44,14 @@ impl<S: Source> Source for InputPort<S> {
             source.peek()
         } else {
             &[]
+        }
+    }
+
+    fn share(&self, n: usize) -> Option<SharedBytes> {
+        if let InputPort::Plain(source) = self {
+            source.share(n)
+        } else {
+            None
         }
     }
 

@@ -1,24 +1,18 @@
-use Rattle.std.proofs.Common.{◌≡◌, ◌≢◌, ap, length, ◌∙◌, refl}
-use Rattle.otn_ports.specs.Views.{Live}
+use Rattle.std.proofs.Common.{ap, length, arith, ◌∙◌}
+use Rattle.std.proofs.lemmas.List.{length-take-le}
+use Rattle.otn_ports.specs.AtHand.{place_at_hand}
 use Rattle.otn_ports.specs.InPlace.{in_view}
-use Rattle.otn_ports.specs.declared.in_place.Reading.TheVariants.{End}
-use Rattle.otn_ports.specs.Reads.{idle_reading}
-use Rattle.frame_geometry.specs.Loans.{after_loan-whole}
-use Rattle.line_side.proofs.Reading.{frame_came, frame_alive, frame_dead, lost_dead, not_dead}
+use Rattle.line_side.proofs.Reading.{hand_live, frame_at_hand}
 use Rattle.line_side.proofs.reader.read_bytes.Goals as goal
 
-pub returns-in_default : goal.returns-in_default
-returns-in_default g c =
-    let e = c.read_full-reading.ensures in
-    let len : length c.read_full-reading.new.into ≡ 16320 = c.read_full-reading.auto.into ∙ c.as_bytes_mut.ensures.size in
-    let idle : (in_view g.P.Source c.args.place.now).state ≢ Live → (in_view g.P.Source c.read_full-reading.new.self ≡ in_view g.P.Source c.args.place.now) × (c.read_full-reading.result ≡ End 0) = λ rests. let h = e.idle rests in (ap (in_view g.P.Source) h.0, h.2 ∙ ap idle_reading c.as_bytes_mut.ensures.size) in
-    rw (after_loan-whole 4080 c.args.frame.now c.read_full-reading.new.into len)
-    (frame_alive _ _ _ _ (not_dead g.P.Source _ c.in_default.not-Dead) (frame_came _ _ _ _ len e.state e.live idle) (lost_dead _ (in_view g.P.Source c.args.place.now) (in_view g.P.Source c.read_full-reading.new.self) e.state (λ rests. (idle rests).1)))
+pub show-requires : goal.show-requires
+show-requires g c =
+    let first = c.in-Some.ensures.first in
+    (omega arith, ap length first.0 ∙ length-take-le 16320 (place_at_hand g.P.Source c.args.place.now) first.1)
 
-pub returns-in-Dead : goal.returns-in-Dead
-returns-in-Dead g c =
-    let e = c.read_full-reading.ensures in
-    let len : length c.read_full-reading.new.into ≡ 16320 = c.read_full-reading.auto.into ∙ c.as_bytes_mut.ensures.size in
-    let idle : (in_view g.P.Source c.args.place.now).state ≢ Live → (in_view g.P.Source c.read_full-reading.new.self ≡ in_view g.P.Source c.args.place.now) × (c.read_full-reading.result ≡ End 0) = λ rests. let h = e.idle rests in (ap (in_view g.P.Source) h.0, h.2 ∙ ap idle_reading c.as_bytes_mut.ensures.size) in
-    rw (after_loan-whole 4080 c.args.frame.now c.read_full-reading.new.into len)
-    (frame_dead _ _ _ _ (rw c.in-Dead.is refl) (frame_came _ _ _ _ len e.state e.live idle))
+pub returns-in-Some : goal.returns-in-Some
+returns-in-Some g c =
+    let hand = place_at_hand g.P.Source c.args.place.now in
+    let first = c.in-Some.ensures.first in
+    frame_at_hand (in_view g.P.Source c.args.place.now) (in_view g.P.Source c.pass.new.self) hand c.show.new.self (hand_live g.P.Source c.args.place.now first.1)
+    first.1 c.pass.ensures.passed c.pass.ensures.state c.pass.ensures.ended c.pass.ensures.faults (c.show.ensures ∙ first.0)

@@ -5,4 +5,4 @@ pub returns-clause-bytes : goal.returns-clause-bytes
 returns-clause-bytes g c =
     let start = g.row.COLS * (c.args.row - 1) + 16 in
     let columns : start + 3808 - start ≡ 3808 = omega arith in
-    ap (λ n. take n (drop start c.deref.result.now)) columns ∙ ap (λ bytes. take 3808 (drop start bytes)) (c.deref.ensures.value ∙ c.self.view_is)
+    ap (λ n. take n (drop start c.as_bytes-bytes.result.now)) columns ∙ ap (λ bytes. take 3808 (drop start bytes)) c.as_bytes-bytes.ensures.bytes

@@ -1,7 +1,9 @@
 use Rattle.std.proofs.Common.{◌≡◌, ℕ, ◌+◌, ◌-◌, ◌*◌, List, ◌++◌, length, take, drop, arith, ap, ◌∙◌, sym, rules}
 use Rattle.std.specs.List.{refill}
 use Rattle.std.proofs.lemmas.List.{drop-drop}
+use Rattle.std.specs.Vec.{with_items_from}
 use Rattle.frame_geometry.specs.Loans.{after_row_loan}
+use Rattle.frame_geometry.specs.Shown.{shown_or}
 use Rattle.frame_geometry.proofs.frame.Frame.payload_row_mut.Goals as goal
 
 -- the bytes of the frame, with these left behind the loan of its payload columns, as the `Vec` gives them
@@ -18,11 +20,14 @@ pub returns : goal.returns
 returns g c =
     let start = g.row.COLS * (c.args.row - 1) + 16 in
     let columns : start + 3808 - start ≡ 3808 = omega arith in
-    let size : c.self.inside.bytes.len ≡ 4 * g.row.COLS = omega arith in (
-      (search rules, λ w. lent c.self.inside.bytes.len g.row.COLS c.args.row c.self.inside.bytes.items c.args.self.now w c.self.view_is size),
+    let items = c.take_over.new.bytes.items in
+    let same : items ≡ c.args.self.now = c.take_over.ensures.bytes ∙ c.self.view_is in
+    let all : length items ≡ 4 * g.row.COLS = ap length same ∙ sym (ap length c.self.view_is) ∙ c.self.invariant.0 in
+    let size : c.take_over.new.bytes.len ≡ 4 * g.row.COLS = omega (arith, all) in (
+      (search rules, λ w. ap (λ s. shown_or s (with_items_from c.take_over.new.bytes start w).items) c.take_over.ensures.none ∙ lent c.take_over.new.bytes.len g.row.COLS c.args.row items c.args.self.now w same size),
       record {
         writes_back = tt;
-        bytes = c.slice_mut.ensures.value ∙ ap (λ n. take n (drop start c.self.inside.bytes.items)) columns ∙ ap (λ bytes. take 3808 (drop start bytes)) c.self.view_is;
+        bytes = c.slice_mut.ensures.value ∙ ap (λ n. take n (drop start items)) columns ∙ ap (λ bytes. take 3808 (drop start bytes)) same;
         size = search rules;
         frame = ap length (sym c.self.view_is) ∙ c.self.invariant.0;
         width = c.self.invariant.1;
