@@ -2,9 +2,13 @@
 ghost use Rattle.std.specs.Prelude.{◌≡◌, ◌≤◌, ◌*◌, length};
 
 use hex::{decode_to_slice, encode};
-use otn_ports::{InPlaceOf, ListedSink, ListedSource, MemSource, OutPlaceOf, Source, Written};
+use otn_ports::{
+    InPlaceOf, ListedSink, ListedSource, MemSource, OutPlaceOf, ReadBlock, ReaderSource, Source,
+    Written,
+};
 use packet_text::{ByteDigits, Line, PacketLines, decode_digits, write_packet};
 use std::alloc::{AllocError, Global};
+use std::io::Cursor;
 use std::test::Fail;
 
 // The lengths of the packets of a source, a thousand at most, the first byte of each, and the last answer.
@@ -147,6 +151,40 @@ fn the_shortest_and_the_longest(rt: HostRuntime) -> Result<(), Fail> {
         }
         assert_eq!(rt; last, line);
     }
+    Ok(())
+}
+
+// So many lines, of packets of 1 to 120 bytes. Each byte of a packet is the number of its line, from 0, modulo 256.
+fn numbered_lines(alloc: Global, count: u32) -> Result<Vec<u8>, AllocError> {
+    let digits = b"0123456789abcdef";
+    let mut text = Vec::new(alloc);
+    for line in 0..count {
+        for _ in 0..line % 120 + 1 {
+            text.push(digits[(line / 16 % 16) as usize])?;
+            text.push(digits[(line % 16) as usize])?;
+        }
+        text.push(b'\n')?;
+    }
+    Ok(text)
+}
+
+// The text of a file stands in blocks of 32,768 bytes, and is read there. It gives what the same text in memory does.
+#[test]
+fn a_text_is_read_where_it_stands(rt: HostRuntime) -> Result<(), Fail> {
+    let alloc = rt.alloc();
+    let text = numbered_lines(alloc, 990)?;
+    let mut source = ReaderSource::over(Cursor::new(Vec::from_slice(alloc, &text)?));
+    source.read_by_blocks(alloc, ReadBlock::Text);
+    let mut file = InPlaceOf::Live(source, 0);
+    let mut memory = InPlaceOf::Live(MemSource::new(text), 0);
+    let mut of_file = PacketLines::new(alloc).map_err(|_memory| AllocError)?;
+    let mut of_memory = PacketLines::new(alloc).map_err(|_memory| AllocError)?;
+    for _ in 0..990_u32 {
+        assert_eq!(rt; of_file.take(&mut file), Line::Packet);
+        assert_eq!(rt; of_memory.take(&mut memory), Line::Packet);
+        assert_eq!(rt; of_file.packet(), of_memory.packet());
+    }
+    assert_eq!(rt; of_file.take(&mut file), Line::End);
     Ok(())
 }
 

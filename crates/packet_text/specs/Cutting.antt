@@ -11,4 +11,4 @@ pub record CutView : Type 0 where
 
 -- a cutter as it is seen
 abbrev pub cut_view : Cutter → CutView
-cut_view c = record { line = c.line.items; hand = take (c.end - c.at) (drop c.at c.block.items); ended = c.ended }
+cut_view c = record { line = c.line.items; hand = take (c.end - c.at) (drop c.at c.block); ended = c.ended }

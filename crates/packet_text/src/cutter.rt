@@ -4,13 +4,11 @@ ghost use Rattle.std.specs.Vec.{vec_capacity};
 ghost use Rattle.otn_ports.specs.InPlace.{in_view};
 ghost use Rattle.packet_text.specs.Steps.Carrying.{NoneCarried, Carried};
 
+use crate::block::{BLOCK, Block};
 use crate::line_feed::first_lf;
 use otn_base::{Memory, append};
 use otn_ports::{InPlaceOf, Reading, Source};
 use std::alloc::Global;
-
-// Bytes of a block.
-const BLOCK: usize = 4096;
 
 // Bytes of a line at most, without its LF: the most digits, and CR.
 const MOST_LINE: usize = 131_055;
@@ -29,12 +27,11 @@ pub(crate) enum Cut {
 /// Cuts a text into lines.
 #[derive(Drop)]
 pub(crate) struct Cutter {
-    block: Vec<u8>,
+    block: Block,
     at: usize,
     end: usize,
     line: Vec<u8>,
     ended: bool,
-    ghost block_size: { vec_len block ≡ 4096 },
     ghost at_within: { at ≤ end },
     ghost end_within: { end ≤ 4096 },
     ghost room: { 135151 ≤ vec_capacity line },
@@ -69,7 +66,7 @@ impl Cutter {
         ensures { IfOk result (λ cutter. cut_view cutter ≡ fresh_cut) }
     {
         Ok(Cutter {
-            block: vec![in alloc; 0u8; BLOCK]?,
+            block: Block::new(alloc)?,
             at: 0,
             end: 0,
             line: Vec::with_capacity(alloc, MOST_LINE + BLOCK)?,
@@ -126,7 +123,7 @@ impl Cutter {
         ensures goes { GoesOnBy result (cut_view self.old) (cut_view self.new) }
         ensures near { self.new.end < self.new.at + 4096 }
     {
-        match carry(&mut self.line, &self.block[self.at..self.end]) {
+        match carry(&mut self.line, &self.block.bytes()[self.at..self.end]) {
             Some(n) => {
                 self.at += n + 1;
                 true
@@ -159,9 +156,9 @@ impl Cutter {
         ensures near { result ≡ false → self.new.end < self.new.at + 4096 }
     {
         self.at = 0;
-        match place.read_full(&mut self.block) {
+        match self.block.fill(place) {
             Reading::Full => {
-                self.end = self.block.len();
+                self.end = self.block.bytes().len();
                 true
             }
             Reading::End(n) => {

@@ -1,6 +1,7 @@
 //! Packets as text: lines of hex digits, read from a place and written to one.
 #![tactic(auto)]
 
+mod block;
 mod byte_digits;
 mod cutter;
 mod digits;
