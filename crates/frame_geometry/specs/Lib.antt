@@ -1,4 +1,3 @@
 pub mod Loans
 pub mod PayloadParity
 pub mod Places
-pub mod Shown

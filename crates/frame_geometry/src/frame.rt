@@ -1,7 +1,6 @@
 // A frame: its bytes, row by row.
-ghost use Rattle.std.specs.Prelude.{◌≡◌, ℕ, ◌*◌, ◌≤◌, length, IfOk, IfSome, None, slice_index, slice_set, vec_len};
+ghost use Rattle.std.specs.Prelude.{◌≡◌, ℕ, ◌*◌, ◌≤◌, length, IfOk, IfSome, None, slice_index, slice_set, unwrap_or, vec_len};
 ghost use Rattle.std.specs.Vec.{vec_capacity};
-ghost use Rattle.frame_geometry.specs.Shown.{shown_or};
 ghost use Rattle.otn_base.specs.declared.limits.TheConstants.{OVERHEAD_COLUMNS};
 
 use otn_base::limits::ROWS;
@@ -21,15 +20,14 @@ pub struct Frame<const COLS: usize> {
 }
 
 impl<const COLS: usize> Model for Frame<COLS> {
-    ghost use Rattle.std.specs.Prelude.{◌≡◌, ℕ, ◌*◌, List, length};
+    ghost use Rattle.std.specs.Prelude.{◌≡◌, ℕ, ◌*◌, List, length, unwrap_or};
     ghost use Rattle.frame_geometry.specs.Places.{IsWidth};
-    ghost use Rattle.frame_geometry.specs.Shown.{shown_or};
 
     ghost Value = { List ℕ };
 
-    ghost view = { λ f. shown_or f.shown f.bytes.items };
+    ghost view = { λ f. unwrap_or f.shown f.bytes.items };
 
-    ghost invariant = { λ f. (length (shown_or f.shown f.bytes.items) ≡ 4 * COLS) × IsWidth COLS × (length f.bytes.items ≡ 4 * COLS) };
+    ghost invariant = { λ f. (length (unwrap_or f.shown f.bytes.items) ≡ 4 * COLS) × IsWidth COLS × (length f.bytes.items ≡ 4 * COLS) };
 }
 
 impl<const COLS: usize> Frame<COLS> {
@@ -160,7 +158,7 @@ impl<const COLS: usize> Frame<COLS> {
 // Takes over bytes that are shown in place of these, and shows none.
 pub(crate) fn take_over(bytes: &mut Vec<u8>, shown: &mut Option<SharedBytes>)
     requires { IfSome shown.old (λ s. length s ≡ vec_len bytes.old) }
-    ensures bytes { bytes.new.items ≡ shown_or shown.old bytes.old.items }
+    ensures bytes { bytes.new.items ≡ unwrap_or shown.old bytes.old.items }
     ensures none { shown.new ≡ None }
 {
     if let Some(shown) = shown.take() {

@@ -56,8 +56,8 @@ impl LineMask {
 
 ghost use Rattle.std.specs.Prelude.{vec_len};
 
-/// So many bytes, all 0.
-pub(crate) fn room(alloc: Global, n: usize) -> Result<Vec<u8>, AllocError>
+// So many bytes. That they are so many is all that proofs see of them here.
+fn room(alloc: Global, n: usize) -> Result<Vec<u8>, AllocError>
     ensures { IfOk result (λ bytes. vec_len bytes ≡ n) }
 {
     vec![in alloc; 0u8; n]

@@ -5,7 +5,6 @@ ghost use Rattle.otn_ports.specs.OutPlace.{out_view};
 ghost use Rattle.otn_ports.specs.Views.{Live, Empty};
 ghost use Rattle.line_side.specs.Steps.LineOutput.{Joins, Leaves};
 
-use crate::mask::room;
 use otn_base::Memory;
 use otn_base::limits::LINE_FRAME_BYTES;
 use otn_ports::{OutPlaceOf, Sink};
@@ -41,7 +40,7 @@ impl Waiting {
         ensures { IfOk result (λ waiting. waiting ≡ []) }
     {
         Ok(Waiting {
-            bytes: room(alloc, LINE_FRAME_BYTES * FRAMES_TOGETHER)?,
+            bytes: vec![in alloc; 0u8; LINE_FRAME_BYTES * FRAMES_TOGETHER]?,
             frames: 0,
         })
     }

@@ -4,7 +4,7 @@ ghost use Rattle.otn_base.specs.declared.limits.TheConstants.{OTU2_SLOTS, PAYLOA
 ghost use Rattle.odtu_columns.specs.BySlots.{slot_byte};
 
 use crate::RowGroups;
-use crate::slot_payload::{SLOT_FRAME, SLOT_ROW, room};
+use crate::slot_payload::{SLOT_FRAME, SLOT_ROW};
 use lane_kernels::{join8_among, split8_among};
 use otn_base::Memory;
 use otn_base::limits::{OTU2_SLOTS, PAYLOAD_COLUMNS, ROWS};
@@ -37,7 +37,7 @@ impl FilledSlots {
         ensures { IfOk result (λ slots. (n : ℕ) → slice_index slots n ≡ 0) }
     {
         Ok(FilledSlots {
-            bytes: room(alloc, ROWS * PAYLOAD_COLUMNS)?,
+            bytes: vec![in alloc; 0u8; ROWS * PAYLOAD_COLUMNS]?,
             filled: [false; OTU2_SLOTS],
         })
     }

@@ -1,5 +1,5 @@
 // The payload of a frame of an OTU2 by tributary slots.
-ghost use Rattle.std.specs.Prelude.{◌≡◌, ℕ, ◌+◌, ◌-◌, ◌*◌, ◌/◌, ◌<◌, ◌≤◌, ◌⊎◌, IfOk, length, slice_index, vec_len};
+ghost use Rattle.std.specs.Prelude.{◌≡◌, ℕ, ◌+◌, ◌-◌, ◌*◌, ◌/◌, ◌<◌, ◌≤◌, ◌⊎◌, IfOk, length, slice_index};
 ghost use Rattle.frame_geometry.specs.Places.{place_of};
 ghost use Rattle.otn_base.specs.declared.limits.TheConstants.{LINE_COLUMNS, OTU2_SLOTS, PAYLOAD_COLUMNS, ROWS};
 ghost use Rattle.odtu_columns.specs.BySlots.{IsPayloadOf};
@@ -8,7 +8,7 @@ use frame_geometry::Frame;
 use lane_kernels::split8_among;
 use otn_base::Memory;
 use otn_base::limits::{LINE_COLUMNS, OTU2_SLOTS, PAYLOAD_COLUMNS, ROWS};
-use std::alloc::{AllocError, Global};
+use std::alloc::Global;
 use std::marker::Model;
 
 /// Bytes of a slot in a row, and in a frame.
@@ -40,7 +40,7 @@ impl SlotPayload {
         ensures { IfOk result (λ payload. length payload ≡ ROWS * PAYLOAD_COLUMNS) }
     {
         Ok(SlotPayload {
-            bytes: room(alloc, ROWS * PAYLOAD_COLUMNS)?,
+            bytes: vec![in alloc; 0u8; ROWS * PAYLOAD_COLUMNS]?,
         })
     }
 
@@ -62,13 +62,6 @@ impl SlotPayload {
         let start = SLOT_FRAME * (k as usize - 1);
         &self.bytes[start..start + SLOT_FRAME]
     }
-}
-
-/// So many bytes.
-pub(crate) fn room(alloc: Global, n: usize) -> Result<Vec<u8>, AllocError>
-    ensures { IfOk result (λ bytes. vec_len bytes ≡ n) }
-{
-    vec![in alloc; 0u8; n]
 }
 
 // Takes over the payload of all rows of a frame.

@@ -15,7 +15,7 @@ use maintenance_signals::SignalBytes;
 use odtu_columns::TakeFrame;
 use otn_base::limits::{GROUPS, NOMINAL};
 use otn_base::{Memory, Slots};
-use std::alloc::{AllocError, Global};
+use std::alloc::Global;
 use std::marker::Model;
 use std::mem;
 use std::ops::Range;
@@ -61,8 +61,8 @@ impl Payload {
           emitted = [];
         }) }
     {
-        let kept = room(alloc, slots * (GROUPS + 1))?;
-        let fresh = room(alloc, slots * (GROUPS + 1))?;
+        let kept = vec![in alloc; 0u8; slots * (GROUPS + 1)]?;
+        let fresh = vec![in alloc; 0u8; slots * (GROUPS + 1)]?;
         Ok(Payload {
             slots,
             runner: Runner::start(0),
@@ -297,13 +297,6 @@ impl Payload {
         self.past = 0;
         emitted
     }
-}
-
-// So many bytes.
-fn room(alloc: Global, n: usize) -> Result<Vec<u8>, AllocError>
-    ensures { IfOk result (λ bytes. vec_len bytes ≡ n) }
-{
-    vec![in alloc; 0u8; n]
 }
 
 // Writes these bytes at `at`, and says where they end; every other byte stays.

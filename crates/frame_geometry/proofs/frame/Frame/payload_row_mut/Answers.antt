@@ -3,7 +3,7 @@ use Rattle.std.specs.List.{refill}
 use Rattle.std.proofs.lemmas.List.{drop-drop}
 use Rattle.std.specs.Vec.{with_items_from}
 use Rattle.frame_geometry.specs.Loans.{after_row_loan}
-use Rattle.frame_geometry.specs.Shown.{shown_or}
+use Rattle.std.specs.Prelude.{unwrap_or}
 use Rattle.frame_geometry.proofs.frame.Frame.payload_row_mut.Goals as goal
 
 -- the bytes of the frame, with these left behind the loan of its payload columns, as the `Vec` gives them
@@ -24,7 +24,7 @@ returns g c =
     let same : items ≡ c.args.self.now = c.take_over.ensures.bytes ∙ c.self.view_is in
     let all : length items ≡ 4 * g.row.COLS = ap length same ∙ sym (ap length c.self.view_is) ∙ c.self.invariant.0 in
     let size : c.take_over.new.bytes.len ≡ 4 * g.row.COLS = omega (arith, all) in (
-      (search rules, λ w. ap (λ s. shown_or s (with_items_from c.take_over.new.bytes start w).items) c.take_over.ensures.none ∙ lent c.take_over.new.bytes.len g.row.COLS c.args.row items c.args.self.now w same size),
+      (search rules, λ w. ap (λ s. unwrap_or s (with_items_from c.take_over.new.bytes start w).items) c.take_over.ensures.none ∙ lent c.take_over.new.bytes.len g.row.COLS c.args.row items c.args.self.now w same size),
       record {
         writes_back = tt;
         bytes = c.slice_mut.ensures.value ∙ ap (λ n. take n (drop start items)) columns ∙ ap (λ bytes. take 3808 (drop start bytes)) same;
