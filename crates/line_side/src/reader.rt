@@ -19,6 +19,8 @@ use std::mem;
 /// A reader of a line's frames, which come through the line's mask. It checks their overhead where `COUNTS` is 1.
 #[derive(Drop)]
 pub(crate) struct LineReader<const COUNTS: usize> {
+    // Of this a place takes the block that it looks ahead by, where it has none.
+    alloc: Global,
     mask: LineMask,
     hand: Frame<LINE_COLUMNS>,
     next: Frame<LINE_COLUMNS>,
@@ -43,13 +45,14 @@ ghost use Rattle.line_side.specs.Steps.Reader.{FrameRead};
 // Reads a frame through the mask. `End` says how many bytes came of one that isn't whole, and `Lost` that the place is
 // dead.
 fn read_frame<P: Source>(
+    alloc: Global,
     place: &mut InPlaceOf<P>,
     frame: &mut Frame<LINE_COLUMNS>,
     mask: &LineMask,
 ) -> Reading
     ensures { FrameRead mask.now result (in_view P.Source place.old) frame.new (in_view P.Source place.new) }
 {
-    match read_bytes(place, frame) {
+    match read_bytes(alloc, place, frame) {
         Reading::Full => {
             mask.apply(frame);
             Reading::Full
@@ -60,11 +63,17 @@ fn read_frame<P: Source>(
 }
 
 // Reads a frame as it stands in the file. It lets go of what it showed first, so that its place may read on where that
-// stands. A frame that the place has at hand whole is shown where it stands.
-fn read_bytes<P: Source>(place: &mut InPlaceOf<P>, frame: &mut Frame<LINE_COLUMNS>) -> Reading
+// stands. A frame that the place has at hand whole is shown where it stands; a place that has nothing at hand looks
+// ahead first, so that the first frame of a block is shown too.
+fn read_bytes<P: Source>(
+    alloc: Global,
+    place: &mut InPlaceOf<P>,
+    frame: &mut Frame<LINE_COLUMNS>,
+) -> Reading
     ensures { FrameRead false result (in_view P.Source place.old) frame.new (in_view P.Source place.new) }
 {
     frame.let_go();
+    place.look_ahead(alloc);
     match place.share(LINE_FRAME_BYTES) {
         Some(bytes) => {
             place.pass(LINE_FRAME_BYTES);
@@ -104,6 +113,7 @@ impl<const COUNTS: usize> LineReader<COUNTS> {
         ensures seen { IfOk result (λ r. HasCounted [] r.seen) }
     {
         Ok(LineReader {
+            alloc,
             mask: LineMask::new(alloc, scrambled)?,
             hand: Frame::new(alloc)?,
             next: Frame::new(alloc)?,
@@ -137,7 +147,7 @@ impl<const COUNTS: usize> LineReader<COUNTS> {
         if !self.is_open() {
             return false;
         }
-        let reading = read_frame(place, &mut self.next, &self.mask);
+        let reading = read_frame(self.alloc, place, &mut self.next, &self.mask);
         self.is_ahead = has_come(reading, &mut self.ending, &mut self.rest);
         self.is_ahead
     }
@@ -234,7 +244,7 @@ impl<const COUNTS: usize> LineReader<COUNTS> {
         if !self.is_open() {
             return false;
         }
-        let reading = read_frame(place, &mut self.hand, &self.mask);
+        let reading = read_frame(self.alloc, place, &mut self.hand, &self.mask);
         if !has_come(reading, &mut self.ending, &mut self.rest) {
             return false;
         }

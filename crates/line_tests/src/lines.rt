@@ -6,8 +6,14 @@ use line_side::{LineCounts, LineIn, LineOut};
 use msi_table::SlotMap;
 use otn_base::limits::LINE_FRAME_BYTES;
 use otn_base::{LineKind, Slots};
-use otn_ports::{Failed, InPlaceOf, MemSink, MemSource, OutPlaceOf, Source};
+use otn_ports::{
+    Failed, InPlaceOf, MemSink, MemSource, OutPlaceOf, ReadBlock, ReaderSource, Source,
+};
 use std::alloc::{AllocError, Global};
+use std::cell::Cell;
+use std::io;
+use std::io::{Cursor, Read};
+use std::rc::Rc;
 use std::test::Fail;
 
 // A source that fails at the read after so many.
@@ -121,6 +127,43 @@ fn lead_in_and_rest(rt: HostRuntime) -> Result<(), Fail> {
         }
     );
     assert!(rt; end_seen);
+    Ok(())
+}
+
+// A reader of bytes that counts its calls.
+#[derive(Drop)]
+struct Counting {
+    bytes: Cursor<Vec<u8>>,
+    calls: Rc<Cell<u32>>,
+}
+
+impl Read for Counting {
+    fn read(&mut self, into: &mut [u8]) -> io::Result<usize> {
+        self.calls.set(self.calls.get().saturating_add(1));
+        self.bytes.read(into)
+    }
+}
+
+// A line of a reader gives what the same line in memory does, and looks ahead by four frames, also where its source was
+// not told to go by blocks: 18 calls of the reader bring 69 frames and what is over, and one or two find the end.
+#[test]
+fn a_line_looks_ahead_by_four_frames(rt: HostRuntime) -> Result<(), Fail> {
+    let alloc = rt.alloc();
+    let bytes = line(alloc, &from(alloc, 3, 69)?, 100)?;
+    let in_memory = MemSource::new(bytes.to_vec(alloc)?);
+    let wanted = turns(alloc, in_memory, LineKind::Otu2, false)?;
+    for by_blocks in [true, false] {
+        let calls = Rc::new(alloc, Cell::new(0_u32))?;
+        let mut source = ReaderSource::over(Counting {
+            bytes: Cursor::new(bytes.to_vec(alloc)?),
+            calls: calls.clone()?,
+        });
+        if by_blocks {
+            source.read_by_blocks(alloc, ReadBlock::Frames);
+        }
+        assert!(rt; turns(alloc, source, LineKind::Otu2, false)? == wanted);
+        assert!(rt; calls.get() == 19 || calls.get() == 20);
+    }
     Ok(())
 }
 
