@@ -24,7 +24,7 @@ of_a_plan reply old new asked now answers carries =
     (r.0, record { old = old; new = new; asked = asked; asked_now = now; reply = reply; answers = answers; carries = carries; is_plan = r.2; was = refl; is = refl })
 
 -- what it left
-left_by : (run : Run) (r : Ran run) → IsRun run
+pub left_by : (run : Run) (r : Ran run) → IsRun run
 left_by run r =
     let p = run_carries r.reply r.old r.new r.asked r.asked_now r.answers r.carries in
     let same : p.0 ≡ run.plan = same_answer (plan_of_text r.answers.text) p.0 run.plan p.2 r.is_plan in

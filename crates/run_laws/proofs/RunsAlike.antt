@@ -34,7 +34,7 @@ use Rattle.device_model.proofs.ConnectionPorts.{to_line_used}
 
 -- ---- two texts of one
 
-one_front : (xs r ys s : List ℕ) → xs ++ r ≡ ys ++ s → IsFrontOfOther xs ys
+pub one_front : (xs r ys s : List ℕ) → xs ++ r ≡ ys ++ s → IsFrontOfOther xs ys
 one_front [] r ys s e = inl (ys, refl)
 one_front (x ∷ xs) r [] s e = inr (x ∷ xs, refl)
 one_front (x ∷ xs) r (y ∷ ys) s e =
@@ -106,7 +106,7 @@ front_byte (suc size) zero (x ∷ xs) ys less = refl
 front_byte (suc size) (suc place) (x ∷ xs) ys less = front_byte size place xs ys (omega arith)
 
 -- so is one of a frame
-byte_in : (f place : ℕ) (xs ys : List ℕ) → 16320 * f + place < length xs → slice_index (frame_at xs f) place ≡ slice_index (frame_at (xs ++ ys) f) place
+pub byte_in : (f place : ℕ) (xs ys : List ℕ) → 16320 * f + place < length xs → slice_index (frame_at xs f) place ≡ slice_index (frame_at (xs ++ ys) f) place
 unfolding frame_at
 byte_in f place xs ys less =
     let rest : place < length (drop (16320 * f) xs) = omega (arith, length-drop (16320 * f) xs) in
@@ -122,7 +122,7 @@ unfolding run_at
 went_byte world b f row column sent l has =
     byte_in f (place_of 4080 row column) sent l.left.rest has ∙ ap (λ bytes. byte_at (frame_at bytes f) row column) (l.left.parts ∙ l.is_due.bytes)
 
-frame_made : (past n size turns : ℕ) → past < turns → n < size → size * past + n < size * turns + 0
+pub frame_made : (past n size turns : ℕ) → past < turns → n < size → size * past + n < size * turns + 0
 frame_made past n size turns p l =
     let h = mul-add-lt past size n turns p l in
     omega (arith, mul_comm size past)

@@ -67,25 +67,25 @@ by_states Live Empty first last all left written f l front k = absurd k
 by_states Empty is first last all left written f l front k = k ∙ sym (front.idle (λ e. cc))
 by_states Dead is first last all left written f l front k = k ∙ sym (front.idle (λ e. cc))
 
-got_is : (first last : OutView) (all left written : List ℕ) → IsFrontOf first last all left → IsWritten first last written → written ≡ left
+pub got_is : (first last : OutView) (all left written : List ℕ) → IsFrontOf first last all left → IsWritten first last written → written ≡ left
 got_is first last all left written front k = by_states first.state last.state first last all left written refl refl front k
 
 -- ---- what the inputs may have been
 
 -- a line and a client that may have been
-abbrev MayLine : Run → Takings → (a : ℕ) → (line : List ℕ) → Type 0
+abbrev pub MayLine : Run → Takings → (a : ℕ) → (line : List ℕ) → Type 0
 MayLine run takings a line = (available : List ℕ) × MayHave (takings.line_more a) (takings.line a) available × (line ≡ through_mask (form_in run.plan a).scrambled available)
 
-abbrev MayClient : Run → Takings → (n : ℕ) → ClientInput → Type 0
+abbrev pub MayClient : Run → Takings → (n : ℕ) → ClientInput → Type 0
 MayClient run takings n input = (available : List ℕ) × MayHave (takings.client_more n) (takings.client n) available
     × (input ≡ input_given (has_died (client_in_at run.before n).state (client_in_at run.after n).state) available)
 
 -- inputs that may have been
-abbrev MayBe : Run → Takings → Inputs → Type 0
+abbrev pub MayBe : Run → Takings → Inputs → Type 0
 MayBe run takings inputs = MayBeInputs run.plan run.before run.after takings inputs
 
 -- what was taken of each, and nothing behind it
-abbrev taken_inputs : Run → Takings → Inputs
+abbrev pub taken_inputs : Run → Takings → Inputs
 taken_inputs run takings = record {
   line = λ a. through_mask (form_in run.plan a).scrambled (takings.line a);
   client = λ n. input_given (has_died (client_in_at run.before n).state (client_in_at run.after n).state) (takings.client n);
@@ -94,17 +94,17 @@ taken_inputs run takings = record {
 all_taken : (more : Bool) (read : List ℕ) → MayHave more read read
 all_taken more read = record { rest = []; over = λ e. refl; parts = sym (append-nil read) }
 
-taken_may : (run : Run) (takings : Takings) → MayBe run takings (taken_inputs run takings)
+pub taken_may : (run : Run) (takings : Takings) → MayBe run takings (taken_inputs run takings)
 taken_may run takings = record {
   line = λ a used. (takings.line a, all_taken (takings.line_more a) (takings.line a), refl);
   client = λ n used. (takings.client n, all_taken (takings.client_more n) (takings.client n), refl);
 }
 
 -- with another line a, or client n
-abbrev with_line : (a : ℕ) → (line : List ℕ) → Inputs → Inputs
+abbrev pub with_line : (a : ℕ) → (line : List ℕ) → Inputs → Inputs
 with_line a line inputs = record { line = λ c. if c == a then line else inputs.line c; client = inputs.client }
 
-abbrev with_client : (n : ℕ) → ClientInput → Inputs → Inputs
+abbrev pub with_client : (n : ℕ) → ClientInput → Inputs → Inputs
 with_client n input inputs = record { line = inputs.line; client = λ c. if c == n then input else inputs.client c }
 
 same_number : (a b : ℕ) → (a == b) ≡ true → a ≡ b
@@ -135,7 +135,7 @@ with_client_may run takings n input inputs may own = record { line = may.line; c
 
 -- ---- inputs with what its own port had to give
 
-abbrev own_line_inputs : (run : Run) → IsRun run → (a : ℕ) → (line : List ℕ) → Inputs
+abbrev pub own_line_inputs : (run : Run) → IsRun run → (a : ℕ) → (line : List ℕ) → Inputs
 own_line_inputs run is a line = with_line a line (taken_inputs run is.takings)
 
 own_line_may : (run : Run) (is : IsRun run) (x : Connection) (a number : ℕ) (slots : LineSlots) (line : List ℕ) → Contains run.plan.connections x → x.from ≡ from_end.Line a number slots → LineGave run a line
@@ -146,7 +146,7 @@ own_line_may run is x a number slots line has from gave =
     with_line_may run is.takings a line (taken_inputs run is.takings) (taken_may run is.takings)
     (gave.available, line_had run.plan run.before run.after is.takings is.numbers a gave.available is.left used gave.had, gave.frames)
 
-abbrev own_client_inputs : (run : Run) → IsRun run → (n : ℕ) → ClientInput → Inputs
+abbrev pub own_client_inputs : (run : Run) → IsRun run → (n : ℕ) → ClientInput → Inputs
 own_client_inputs run is n input = with_client n input (taken_inputs run is.takings)
 
 own_client_may : (run : Run) (is : IsRun run) (x : Connection) (n : ℕ) (input : ClientInput) → Contains run.plan.connections x → x.from ≡ from_end.Client n → ClientGave run n input
@@ -157,20 +157,20 @@ own_client_may run is x n input has from gave =
 
 -- ---- the run, as one of these inputs
 
-abbrev world_of : (run : Run) → IsRun run → Inputs → World
+abbrev pub world_of : (run : Run) → IsRun run → Inputs → World
 world_of run is inputs = record { plan = run.plan; first = run.before; last = run.after; takings = is.takings; numbers = is.numbers; inputs = inputs }
 
-abbrev is_world : (run : Run) (is : IsRun run) (inputs : Inputs) → MayBe run is.takings inputs → IsWorld (world_of run is inputs)
+abbrev pub is_world : (run : Run) (is : IsRun run) (inputs : Inputs) → MayBe run is.takings inputs → IsWorld (world_of run is inputs)
 is_world run is inputs may = record { accepted = is.accepted; left = is.left; may_be = may }
 
 -- what its line got, in a world of the run
-line_got : (world : World) (x : Connection) (is : IsWorld world) → Contains world.plan.connections x → (b number : ℕ) (slots : LineSlots) (written : List ℕ) → x.to ≡ to_end.Line b number slots
+pub line_got : (world : World) (x : Connection) (is : IsWorld world) → Contains world.plan.connections x → (b number : ℕ) (slots : LineSlots) (written : List ℕ) → x.to ≡ to_end.Line b number slots
     → IsWritten (line_out_at world.first b) (line_out_at world.last b) written → written ≡ (bytes_out world is).line b
 line_got world x is has b number slots written to got =
     let file = (left_through world x is has).line b number slots to in
     got_is (line_out_at world.first b) (line_out_at world.last b) (through_mask (form_out world.plan b).scrambled (concat file.frames)) ((bytes_out world is).line b) written file.front got
 
-client_got : (world : World) (x : Connection) (is : IsWorld world) → Contains world.plan.connections x → (n : ℕ) (written : List ℕ) → x.to ≡ to_end.Client n
+pub client_got : (world : World) (x : Connection) (is : IsWorld world) → Contains world.plan.connections x → (n : ℕ) (written : List ℕ) → x.to ≡ to_end.Client n
     → IsWritten (client_out_at world.first n) (client_out_at world.last n) written → written ≡ (bytes_out world is).client n
 client_got world x is has n written to got =
     got_is (client_out_at world.first n) (client_out_at world.last n) (text_by x (own_input world.inputs x) (x.stop - first_turn x)) ((bytes_out world is).client n) written
@@ -249,14 +249,14 @@ seen_alike one other x first second share =
 -- ---- two runs, up to a turn
 
 -- inputs that both may have had, and that agree so far on what the end comes from
-record AgreeingSoFar (one other : Run) (first : IsRun one) (second : IsRun other) (from : FromEnd) (x : Connection) (n : ℕ) : Type 0 where
-  mine : Inputs
-  theirs : Inputs
-  may : MayBe one first.takings mine
-  may_too : MayBe other second.takings theirs
-  agree : AgreeUpTo from x n mine theirs
+pub record AgreeingSoFar (one other : Run) (first : IsRun one) (second : IsRun other) (from : FromEnd) (x : Connection) (n : ℕ) : Type 0 where
+  pub mine : Inputs
+  pub theirs : Inputs
+  pub may : MayBe one first.takings mine
+  pub may_too : MayBe other second.takings theirs
+  pub agree : AgreeUpTo from x n mine theirs
 
-agreeing_so_far : (one other : Run) (first : IsRun one) (second : IsRun other) (x : Connection) (n : ℕ) (from : FromEnd) → x.from ≡ from → Contains one.plan.connections x → Contains other.plan.connections x
+pub agreeing_so_far : (one other : Run) (first : IsRun one) (second : IsRun other) (x : Connection) (n : ℕ) (from : FromEnd) → x.from ≡ from → Contains one.plan.connections x → Contains other.plan.connections x
     → AgreeOnInputUpTo from x n one other → AgreeingSoFar one other first second from x n
 agreeing_so_far one other first second x n (from_end.Line a number slots) e has has_too (line, others, gave, gave_too, agree) =
     let own = tributary_of slots number in
