@@ -1,0 +1,5 @@
+pub mod ReadBack
+pub mod Handing
+pub mod Isolation
+pub mod Delivery
+pub mod Networks

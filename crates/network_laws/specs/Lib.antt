@@ -1,0 +1,4 @@
+pub mod Ways
+pub mod Isolation
+pub mod Delivery
+pub mod Networks

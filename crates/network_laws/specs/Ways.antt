@@ -1,0 +1,91 @@
+-- Believed: a customer's way through nodes: the runs of the nodes, the entries of their plans that it goes by, and the
+-- fibres between them. Nothing is asked of a network beside the way.
+use Rattle.std.specs.Prelude.{◌≡◌, ◌≤◌, ◌*◌, min, ℕ, List, [], ◌∷◌, ◌++◌, length, map}
+use Rattle.std.specs.List.{Contains}
+use Rattle.otn_base.specs.LineSlots.{LineSlots, slots_of}
+use Rattle.otn_base.specs.declared.limits.TheConstants.{LINE_FRAME_BYTES}
+use Rattle.otn_ports.specs.Given.{HadToGive}
+use Rattle.otn_ports.specs.Views.{line_in_at}
+use Rattle.plan_file.specs.declared.connection.Connection.{Connection}
+use Rattle.plan_file.specs.declared.connection.FromEnd.TheVariants as from_end
+use Rattle.plan_file.specs.declared.connection.ToEnd.TheVariants as to_end
+use Rattle.device_model.specs.Entries.{form_in, form_out}
+use Rattle.run_laws.specs.SeenRuns.{Run, IsRun, LineGot, LineLived}
+
+-- ---- fibres
+
+-- A fibre leads from line b out of one run to line c in of another. Both ends are of one kind and mask; and what the
+-- input had to give is what went to the output, or a part of that from the front, where the fibre was cut or a port of
+-- it died. Both ports tell their bytes. How these came from one to the other, and when, is free.
+pub record Fibre (here there : Run) (b c : ℕ) : Type 0 where
+  pub form : form_in there.plan c ≡ form_out here.plan b
+  pub written : List ℕ
+  pub went : LineGot here b written
+  pub brought : List ℕ
+  pub came : HadToGive (line_in_at there.before c) (line_in_at there.after c) brought
+  pub cut : List ℕ
+  pub parts : brought ++ cut ≡ written
+
+-- The fibre is whole: its output's place has lived, and all that went there came.
+pub record IsWhole (here : Run) (b : ℕ) (cut : List ℕ) : Type 0 where
+  pub lived : LineLived here b
+  pub all : cut ≡ []
+
+-- These bytes of a line with so many slots have all frames of the first turns, so many.
+abbrev pub HaveTurns : (size turns : ℕ) → List ℕ → Type 0
+HaveTurns size turns brought = LINE_FRAME_BYTES * (size * turns) ≤ length brought
+
+-- ---- the way
+
+-- a node on the way: its run, and the entry of its plan by which the way goes
+pub record Halt : Type 0 where
+  pub run : Run
+  pub x : Connection
+
+pub record IsHalt (halt : Halt) : Type 0 where
+  pub is : IsRun halt.run
+  pub has : Contains halt.run.plan.connections halt.x
+
+-- An entry goes on in another: it puts its tributary on line b, and the other takes it off line c, by the same
+-- tributary port, on the same slots, and in no turn in which it is not put.
+pub record GoesOn (x y : Connection) (b c port : ℕ) (slots : LineSlots) : Type 0 where
+  pub puts : x.to ≡ to_end.Line b port slots
+  pub takes : y.from ≡ from_end.Line c port slots
+  pub start : x.start ≤ y.start
+  pub stop : y.stop ≤ x.stop
+
+-- so the way leads from one node to the next
+pub record LeadsOn (here next : Halt) : Type 0 where
+  pub b : ℕ
+  pub c : ℕ
+  pub port : ℕ
+  pub slots : LineSlots
+  pub goes : GoesOn here.x next.x b c port slots
+  pub fibre : Fibre here.run next.run b c
+
+-- a way from its first node by those that follow
+abbrev pub IsWay : Halt → List Halt → Type 0
+IsWay halt [] = IsHalt halt
+IsWay halt (next ∷ halts) = IsHalt halt × LeadsOn halt next × IsWay next halts
+
+-- its last node, and the entries by which it goes
+abbrev pub last_halt : Halt → List Halt → Halt
+last_halt halt [] = halt
+last_halt halt (next ∷ halts) = last_halt next halts
+
+abbrev pub entries : Halt → List Halt → List Connection
+entries halt halts = map (λ h. h.x) (halt ∷ halts)
+
+-- ---- what its fibres brought
+
+-- each of its fibres is whole
+abbrev pub IsWholeWay : (halt : Halt) (halts : List Halt) → IsWay halt halts → Type 0
+IsWholeWay halt [] way = Unit {0}
+IsWholeWay halt (next ∷ halts) way = IsWhole halt.run way.1.b way.1.fibre.cut × IsWholeWay next halts way.2
+
+-- Each of its fibres brought the frames of the first turns, so many, as far as the entry lasts that takes them.
+abbrev pub BringsTurns : (turns : ℕ) (halt : Halt) (halts : List Halt) → IsWay halt halts → Type 0
+BringsTurns turns halt [] way = Unit {0}
+BringsTurns turns halt (next ∷ halts) way =
+    HaveTurns (slots_of way.1.slots.kind) (min turns next.x.stop) way.1.fibre.brought
+    × BringsTurns turns next halts way.2
