@@ -1,3 +1,4 @@
+pub mod Growing
 pub mod NodeReads
 pub mod Told
 pub mod SettledClients

@@ -1,3 +1,4 @@
+pub mod Growing
 pub mod Settling
 pub mod Asking
 pub mod Steps

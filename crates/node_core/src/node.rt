@@ -9,6 +9,7 @@ ghost use Rattle.otn_ports.specs.Racks.{bays_view};
 ghost use Rattle.otn_ports.specs.Views.{BaysView};
 ghost use Rattle.plan_file.specs.Answer.{fault_in};
 ghost use Rattle.plan_file.specs.declared.plan.Plan.{Plan};
+ghost use Rattle.node_core.specs.Growing.{OutputsGrow};
 ghost use Rattle.node_links.specs.Retiring.{RetiredBy};
 ghost use Rattle.node_moments.specs.NodeMoves.{FenceMove};
 ghost use Rattle.node_moments.specs.Steps.NodeMoves.{LineInMove, LineOutMove, ClientInMove, ClientOutMove};
@@ -138,6 +139,7 @@ impl Node {
         ensures turns { self.new.turns ≡ self.old.turns }
         ensures past { self.new.past ≡ self.old.past }
         ensures only { OnlyPort port (bays_view P.Source K.Sink bays.old) (bays_view P.Source K.Sink bays.new) }
+        ensures grows { OutputsGrow (bays_view P.Source K.Sink bays.old) (bays_view P.Source K.Sink bays.new) }
     {
         match port {
             PortName::LineIn(a) => self.step_line_in(a, bays.line_in_mut(a)),

@@ -2,6 +2,7 @@
 use Rattle.std.specs.Prelude.{◌≡◌, ◌<◌, ◌+◌, ◌*◌, ◌%◌, ℕ, suc, Bool, true, false, ◌&&◌, List, [], ◌∷◌, ◌++◌, Some, length, slice_get, is_some, Option}
 use Rattle.otn_base.specs.LineSlots.{LineSlots, slots_of}
 use Rattle.otn_base.specs.declared.kind.PortName.TheVariants as port
+use Rattle.otn_ports.specs.Given.{Gained}
 use Rattle.otn_ports.specs.Views.{InView, OutView}
 use Rattle.line_side.specs.LineFile.{mfas_of}
 use Rattle.line_side.specs.LineForm.{size_of}
@@ -75,11 +76,13 @@ pub record FillLine (plan : Plan) (inputs : Inputs) (b past n : ℕ) (links : Li
       → (frames : List Taken) × ((ended : Bool)
       × PipeStands x (own_input inputs x) (own_turn x past) frames ended n link.pipe)
 
--- line b makes frame n of turn past + 1, into which each connection that gives to the line puts its own
+-- line b makes frame n of turn past + 1, into which each connection that gives to the line puts its own; what its place
+-- got grew
 pub record WritesLine (past b n : ℕ) (old : LineOutView) (was : OutView) (links : List Link) (new : LineOutView)
     (is : OutView) (next : List Link) : Type 0 where
   pub put : FramePut
   pub made : AsMade b was old (λ form first puts. LineMade b form first is (puts ++ put ∷ []) new)
+  pub gained : (written : List ℕ) × Gained was written is
   pub form : new.form ≡ old.form
   pub mfas : put.mfas ≡ (size_of old.form * past + n) % 256
   pub gave : EachLink (λ link then. GaveFrame (takes_part past (port.LineOut b) link) n link then) links next

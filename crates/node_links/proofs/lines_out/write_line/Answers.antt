@@ -20,6 +20,7 @@ returns g c =
         put = put;
         made = λ form first puts h.
             c.finish_with.ensures.made c.args.b form first puts (subst (LineMade c.args.b form first (out_view g.K.Sink c.args.place.now) puts) (sym c.fill_line-payload.ensures.line) (made_on put.bytes h));
+        gained = c.finish_with.ensures.gained;
         form = c.finish_with.ensures.form ∙ ap (λ (line : LineOutView). line.form) c.fill_line-payload.ensures.line;
         mfas = subst (λ k. put.mfas ≡ (slots_of k * c.args.past + c.args.n) % 256) is c.mfas_of.ensures;
         gave = c.fill_line-payload.ensures.gave c.args.n;

@@ -11,6 +11,7 @@ use Rattle.node_moments.specs.Steps.NodeMoves.{LineInMove, LineOutMove, ClientIn
 use Rattle.node_moments.proofs.LineInMoves.{line_in_moves}
 use Rattle.node_moments.proofs.LineOutMoves.{line_out_moves}
 use Rattle.node_moments.proofs.ClientMoves.{client_in_moves, client_out_moves}
+use Rattle.node_core.proofs.Growing.{all_kept, one_grew}
 use Rattle.node_core.proofs.node.Node.step.Goals as goal
 
 pub returns-in-LineIn-clause-only : goal.returns-in-LineIn-clause-only
@@ -80,3 +81,34 @@ returns-in-ClientOut-clause-stands g c = λ plan first read h.
     let now : client_out_at new n ≡ out_view g.K.Sink c.step_client_out.new.place = client_out_set g.P.Source g.K.Sink c.args.bays.now n _ c.step_client_out.new.place c.client_out_mut.ensures.value in
     let move : ClientOutMove n c.args.self.now (client_out_at old n) c.step_client_out.new.self (client_out_at new n) = rw (was, now) c.step_client_out.ensures in
     client_out_moves plan first read n c.args.self.now c.step_client_out.new.self old new ready move (only_client_out_port n old new (only_client_out g.P.Source g.K.Sink c.args.bays.now n c.step_client_out.new.place)) h
+
+pub returns-in-LineIn-clause-grows : goal.returns-in-LineIn-clause-grows
+returns-in-LineIn-clause-grows g c =
+    let n = c.in-LineIn.a in
+    let old = bays_view g.P.Source g.K.Sink c.args.bays.now in
+    let new = bays_view g.P.Source g.K.Sink (with_line_in c.args.bays.now n c.step_line_in.new.place) in
+    all_kept (LineIn n) old new (only_line_in_port n old new (only_line_in g.P.Source g.K.Sink c.args.bays.now n c.step_line_in.new.place)) (λ b e. cc)
+
+pub returns-in-LineOut-clause-grows : goal.returns-in-LineOut-clause-grows
+returns-in-LineOut-clause-grows g c =
+    let n = c.in-LineOut.b in
+    let old = bays_view g.P.Source g.K.Sink c.args.bays.now in
+    let new = bays_view g.P.Source g.K.Sink (with_line_out c.args.bays.now n c.step_line_out.new.place) in
+    let was : line_out_at old n ≡ out_view g.K.Sink c.line_out_mut.result.now = line_out_seen g.P.Source g.K.Sink c.args.bays.now n _ c.line_out_mut.ensures.value in
+    let now : line_out_at new n ≡ out_view g.K.Sink c.step_line_out.new.place = line_out_set g.P.Source g.K.Sink c.args.bays.now n _ c.step_line_out.new.place c.line_out_mut.ensures.value in
+    let move : LineOutMove n c.args.self.now (line_out_at old n) c.step_line_out.new.self (line_out_at new n) = rw (was, now) c.step_line_out.ensures in
+    one_grew n old new move.writes.gained.0 (only_line_out_port n old new (only_line_out g.P.Source g.K.Sink c.args.bays.now n c.step_line_out.new.place)) move.writes.gained.1.sends.got
+
+pub returns-in-ClientIn-clause-grows : goal.returns-in-ClientIn-clause-grows
+returns-in-ClientIn-clause-grows g c =
+    let n = c.in-ClientIn.n in
+    let old = bays_view g.P.Source g.K.Sink c.args.bays.now in
+    let new = bays_view g.P.Source g.K.Sink (with_client_in c.args.bays.now n c.step_client_in.new.place) in
+    all_kept (ClientIn n) old new (only_client_in_port n old new (only_client_in g.P.Source g.K.Sink c.args.bays.now n c.step_client_in.new.place)) (λ b e. cc)
+
+pub returns-in-ClientOut-clause-grows : goal.returns-in-ClientOut-clause-grows
+returns-in-ClientOut-clause-grows g c =
+    let n = c.in-ClientOut.n in
+    let old = bays_view g.P.Source g.K.Sink c.args.bays.now in
+    let new = bays_view g.P.Source g.K.Sink (with_client_out c.args.bays.now n c.step_client_out.new.place) in
+    all_kept (ClientOut n) old new (only_client_out_port n old new (only_client_out g.P.Source g.K.Sink c.args.bays.now n c.step_client_out.new.place)) (λ b e. cc)
