@@ -1,0 +1,14 @@
+use Rattle.std.proofs.Common.{◌≡◌}
+use Rattle.otn_ports.specs.Racks.{bays_view}
+use Rattle.node_core.specs.Growing.{OutputsGrow}
+use Rattle.network_core.specs.Turns.{LeadsLater, LinesUnasked}
+use Rattle.network_core.proofs.turns.write_lines.Given as goal
+
+abbrev pub invariant-loop-b : goal.invariant-loop-b
+invariant-loop-b g l = record {
+  stands : LeadsLater l.fn.node (bays_view g.P.Source g.K.Sink l.fn.bays) l.node (bays_view g.P.Source g.K.Sink l.bays);
+  turns : l.node.turns ≡ l.fn.node.turns;
+  past : l.node.past ≡ l.fn.node.past;
+  grows : OutputsGrow (bays_view g.P.Source g.K.Sink l.fn.bays) (bays_view g.P.Source g.K.Sink l.bays);
+  unasked : LinesUnasked (bays_view g.P.Source g.K.Sink l.fn.bays) (bays_view g.P.Source g.K.Sink l.bays);
+}
