@@ -1,0 +1,4 @@
+pub mod Grown
+pub mod GrownText
+pub mod Handed
+pub mod TurnsOut

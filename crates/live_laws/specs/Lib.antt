@@ -1,0 +1,2 @@
+pub mod HandedIn
+pub mod TurnsOut
