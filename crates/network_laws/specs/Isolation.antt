@@ -4,7 +4,7 @@ use Rattle.std.specs.Prelude.{◌≡◌, ◌≤◌, ◌+◌, ◌-◌, min, ℕ, 
 use Rattle.plan_file.specs.declared.connection.Connection.{Connection}
 use Rattle.plan_file.specs.declared.connection.ToEnd.TheVariants as to_end
 use Rattle.device_model.specs.Entries.{first_turn}
-use Rattle.run_laws.specs.SeenRuns.{Run, AgreeOnInput, AgreeOnInputUpTo, ClientGot, SameLineUpTo, SameOutput, SameText}
+use Rattle.run_laws.specs.SeenRuns.{Run, AgreeOnInput, AgreeOnInputUpTo, ClientGot, SameOutputUpTo, SameOutput, SameText}
 use Rattle.network_laws.specs.Ways.{Halt, IsWay, IsWholeWay, BringsTurns, last_halt, entries}
 
 -- how many of its own turns a connection has in the first turns, so many
@@ -31,7 +31,7 @@ pub record SameUpTo (turns : ℕ) (one other : Run) (x : Connection) : Type 0 wh
   pub client : (n : ℕ) (written others : List ℕ) → x.to ≡ to_end.Client n → ClientGot one n written
       → ClientGot other n others → x.stop ≤ turns + 1
       → SameText one other n written others
-  pub line : SameLineUpTo (own_turns turns x) one other x
+  pub line : SameOutputUpTo (own_turns turns x) one other x
 
 -- So it is where the fibres of the way brought the first turns in both, and the runs of the first node agree so far on
 -- what its entry comes from: whatever came later, and however the fibres were cut behind these turns.

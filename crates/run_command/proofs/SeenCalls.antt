@@ -7,7 +7,7 @@ use Rattle.plan_file.specs.declared.connection.Connection.{Connection}
 use Rattle.plan_file.specs.declared.plan.Plan.{Plan}
 use Rattle.device_model.specs.Moments.{uses}
 use Rattle.device_model.specs.RunLeft.{RunLeft, SamePlace}
-use Rattle.run_laws.specs.SeenRuns.{Run, IsRun, ShareInput, SameOutput, ShareInputUpTo, SameLineUpTo, PutThrough, CarriesOver}
+use Rattle.run_laws.specs.SeenRuns.{Run, IsRun, ShareInput, SameOutput, ShareInputUpTo, SameOutputUpTo, PutThrough, CarriesOver}
 use Rattle.run_laws.proofs.SeenRuns.{seen_alike, not_ahead as seen_not_ahead, puts_through, carries_over}
 use Rattle.command_base.specs.Device.{Device}
 use Rattle.run_command.specs.Headline.{Ran}
@@ -41,7 +41,7 @@ left_by run r =
 pub isolated : (one other : Run) (x : Connection) → Ran one → Ran other → ShareInput one other x → SameOutput one other x
 isolated one other x first second share = seen_alike one other x (left_by one first) (left_by other second) share
 
-pub not_ahead : (n : ℕ) (one other : Run) (x : Connection) → Ran one → Ran other → ShareInputUpTo n one other x → SameLineUpTo n one other x
+pub not_ahead : (n : ℕ) (one other : Run) (x : Connection) → Ran one → Ran other → ShareInputUpTo n one other x → SameOutputUpTo n one other x
 not_ahead n one other x first second share = seen_not_ahead n one other x (left_by one first) (left_by other second) share
 
 pub is_through : (run : Run) (x : Connection) → Ran run → Contains run.plan.connections x → PutThrough run x

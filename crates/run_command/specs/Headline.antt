@@ -8,7 +8,7 @@ use Rattle.plan_file.specs.declared.connection.Connection.{Connection}
 use Rattle.plan_file.specs.declared.plan.Plan.{Plan}
 use Rattle.device_model.specs.Moments.{uses}
 use Rattle.device_model.specs.RunLeft.{SamePlace}
-use Rattle.run_laws.specs.SeenRuns.{Run, ShareInput, SameOutput, ShareInputUpTo, SameLineUpTo, PutThrough, CarriesOver}
+use Rattle.run_laws.specs.SeenRuns.{Run, ShareInput, SameOutput, ShareInputUpTo, SameOutputUpTo, PutThrough, CarriesOver}
 use Rattle.command_base.specs.Device.{Device}
 use Rattle.run_command.specs.RunAnswers.{RunAnswers}
 use Rattle.run_command.specs.RunCalls.{CarriesPlan}
@@ -40,10 +40,11 @@ abbrev pub IsIsolated : Type 0
 IsIsolated = (one other : Run) (x : Connection) → Ran one → Ran other → ShareInput one other x → SameOutput one other x
 
 -- Not ahead: where they agree on it in the connection's first n own turns alone, the same leaves on its line up to the
--- frames of own turn n, from 0.
+-- frames of own turn n, from 0, and to its client where it has at most n + 1 own turns. So what a line brings behind
+-- the connection's stop, and whether it dies there, changes nothing of either.
 abbrev pub LooksNotAhead : Type 0
 LooksNotAhead = (n : ℕ) (one other : Run) (x : Connection) → Ran one → Ran other → ShareInputUpTo n one other x
-    → SameLineUpTo n one other x
+    → SameOutputUpTo n one other x
 
 -- Through: to a client went the text that its own entry puts through it of its own input, to a line the line's file:
 -- from the front, and all where its place has lived.

@@ -44,9 +44,9 @@ use Rattle.device_model.specs.LineAsked.{MayHave}
 use Rattle.device_model.specs.RunLeft.{Takings, MayBeInputs}
 use Rattle.run_laws.specs.RunsAlike.{World, IsWorld, bytes_out}
 use Rattle.run_laws.specs.RunsThrough.{IsFrontOf, CarriedOn}
-use Rattle.run_laws.specs.SeenRuns.{Run, IsRun, LineGave, ClientGave, AgreeOnInput, ShareInput, LineGot, ClientGot, LineLived, ClientLived, SameText, SameOnLine, SameOutput, AgreeOnInputUpTo, ShareInputUpTo, SameLineUpTo, Shows, Gave, GaveTo, FileGot, PutThrough, read_back, CarriesOver}
+use Rattle.run_laws.specs.SeenRuns.{Run, IsRun, LineGave, ClientGave, AgreeOnInput, ShareInput, LineGot, ClientGot, LineLived, ClientLived, SameText, SameOnLine, SameOutput, AgreeOnInputUpTo, ShareInputUpTo, SameOutputUpTo, Shows, Gave, GaveTo, FileGot, PutThrough, read_back, CarriesOver}
 use Rattle.run_laws.proofs.GivenRuns.{some_passes, line_had, client_had}
-use Rattle.run_laws.proofs.RunsAlike.{left_alike, places_as_got, all_gone, line_left}
+use Rattle.run_laws.proofs.RunsAlike.{left_alike, places_as_got, all_gone, all_of, line_left, one_front}
 use Rattle.run_laws.proofs.RunsThrough.{left_through, carried_in}
 use Rattle.device_model.proofs.ConnectionPorts.{from_line_used, one_passes}
 
@@ -284,7 +284,31 @@ agreeing_so_far one other first second x n (from_end.Signal signal) e has has_to
   agree = tt;
 }
 
-pub not_ahead : (n : ℕ) (one other : Run) (x : Connection) → IsRun one → IsRun other → ShareInputUpTo n one other x → SameLineUpTo n one other x
+-- the text of a client, where they agree on what it comes from in all own turns but the last
+pub seen_text : (n : ℕ) (one other : Run) (x : Connection) → IsRun one → IsRun other → ShareInputUpTo n one other x → x.stop - first_turn x ≤ n + 1 → (m : ℕ) (written others : List ℕ) → x.to ≡ to_end.Client m
+    → ClientGot one m written → ClientGot other m others → SameText one other m written others
+seen_text n one other x first second share few m written others to got got_too =
+    let w = agreeing_so_far one other first second x n x.from refl share.first share.second share.agree in
+    let is = is_world one first w.mine w.may in
+    let is_too = is_world other second w.theirs w.may_too in
+    let alike = looks_not_ahead x n (own_input w.mine x) (own_input w.theirs x) (shows_the_same_up_to one.plan x n w.mine w.theirs first.accepted share.first w.agree) in
+    let all = text_by x (own_input w.mine x) (x.stop - first_turn x) in
+    let all_too = text_by x (own_input w.theirs x) (x.stop - first_turn x) in
+    let same : all ≡ all_too = alike.text (x.stop - first_turn x) few in
+    let front = (left_through (world_of one first w.mine) x is share.first).client m to in
+    let front_too = (left_through (world_of other second w.theirs) x is_too share.second).client m to in
+    let sent = (bytes_out (world_of one first w.mine) is).client m in
+    let sent_too = (bytes_out (world_of other second w.theirs) is_too).client m in
+    let e = got_is (client_out_at one.before m) (client_out_at one.after m) all sent written front got in
+    let f = got_is (client_out_at other.before m) (client_out_at other.after m) all_too sent_too others front_too got_too in
+    subst (λ l. SameText one other m l others) (sym e)
+    (subst (λ l. SameText one other m sent l) (sym f)
+    (record {
+      front = one_front sent front.rest sent_too front_too.rest (front.parts ∙ same ∙ sym front_too.parts);
+      whole = λ lived lived_too. all_of sent front.rest all front.parts (front.whole lived) ∙ same ∙ sym (all_of sent_too front_too.rest all_too front_too.parts (front_too.whole lived_too));
+    }))
+
+pub not_ahead : (n : ℕ) (one other : Run) (x : Connection) → IsRun one → IsRun other → ShareInputUpTo n one other x → SameOutputUpTo n one other x
 not_ahead n one other x first second share =
     let w = agreeing_so_far one other first second x n x.from refl share.first share.second share.agree in
     let is = is_world one first w.mine w.may in
@@ -293,6 +317,7 @@ not_ahead n one other x first second share =
     let theirs = world_of other second w.theirs in
     let alike = looks_not_ahead x n (own_input w.mine x) (own_input w.theirs x) (shows_the_same_up_to one.plan x n w.mine w.theirs first.accepted share.first w.agree) in
     record {
+      client = λ m written others to few got got_too. seen_text n one other x first second share few m written others to got got_too;
       line = λ b number past k row column slots written others place mask so_far got got_too.
           let e = line_got mine x is share.first b number slots written place.to got in
           let f = line_got theirs x is_too share.second b number slots others place.to got_too in

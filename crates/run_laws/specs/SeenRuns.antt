@@ -149,9 +149,14 @@ pub record ShareInputUpTo (n : ℕ) (one other : Run) (x : Connection) : Type 0 
   pub second : Contains other.plan.connections x
   pub agree : AgreeOnInputUpTo x.from x n one other
 
--- Its own places on its line are the same in both up to the frames of own turn n, from 0, whatever its input shows from
--- that turn on.
-pub record SameLineUpTo (n : ℕ) (one other : Run) (x : Connection) : Type 0 where
+-- What left on a connection is the same in both so far, whatever its input shows from own turn n on, from 0: to its client
+-- the same text, where it has no own turn behind that; on its line the same bytes at its own places, up to the frames
+-- of own turn n.
+pub record SameOutputUpTo (n : ℕ) (one other : Run) (x : Connection) : Type 0 where
+  pub client : (m : ℕ) (written others : List ℕ) → x.to ≡ to_end.Client m → x.stop - first_turn x ≤ n + 1
+      → ClientGot one m written
+      → ClientGot other m others
+      → SameText one other m written others
   pub line : (b port past k row column : ℕ) (slots : LineSlots) (written others : List ℕ)
       → HasPlace x b port past k row column slots
       → (form_out one.plan b).scrambled ≡ (form_out other.plan b).scrambled → own_turn x past ≤ n
@@ -162,7 +167,7 @@ pub record SameLineUpTo (n : ℕ) (one other : Run) (x : Connection) : Type 0 wh
 -- So it is of any two runs that share a connection.
 abbrev pub SeenRunsLookNotAhead : Type 0
 SeenRunsLookNotAhead = (n : ℕ) (one other : Run) (x : Connection) → IsRun one → IsRun other
-    → ShareInputUpTo n one other x → SameLineUpTo n one other x
+    → ShareInputUpTo n one other x → SameOutputUpTo n one other x
 
 -- ---- what is put through
 

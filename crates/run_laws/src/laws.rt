@@ -48,7 +48,8 @@ pub fn runs_carry()
 /// gave (`through`); and what is carried to a connection leaves on it (`carry`). That is said of ports that tell their
 /// bytes: of all other ports, and of what a run takes of its inputs and counts, nothing is asked. A place that the plan
 /// does not use is seen as it was (`others`). And no turn looks ahead (`ahead`): where the two agree in the entry's
-/// first own turns alone, so do its own places on its line in these and one turn more.
+/// first own turns alone, so do its own places on its line in these and one turn more, and the text of its client where
+/// these are all of its turns but one.
 pub fn seen_runs()
     ensures agree { SeenRunsAgree }
     ensures through { SeenRunsPutThrough }
