@@ -64,10 +64,13 @@ import sys
 from dataclasses import dataclass, field
 from typing import Dict, List, Mapping, Optional, Sequence, Tuple, Union
 
+import otn_lines as lines
+from otn_damage import Damaged, damage, undo
+
 __all__ = [
-    "CLIENTS", "FRAME", "LINES", "MULTIFRAME", "RULES", "VERSION", "ClientIn", "ClientOut", "LineIn", "LineOut",
-    "Records", "Result", "Status", "call", "check", "packets", "protect", "pull", "run", "slot", "text", "trial",
-    "version",
+    "CLIENTS", "FRAME", "LINES", "MULTIFRAME", "RULES", "VERSION", "ClientIn", "ClientOut", "Damaged", "LineIn",
+    "LineOut", "Records", "Result", "Status", "call", "check", "damage", "lines", "packets", "protect", "pull", "run",
+    "slot", "text", "trial", "undo", "version",
 ]
 
 VERSION = 1  #: the version of the library that this file is for (OTN_VERSION of include/otn.h)
