@@ -19,10 +19,12 @@ WHERE, all of the line without it. Frames count from 0, turns from 1:
 
 WHAT, the whole frame without it:
 
-    fas    mfas    sm tti    sm bip8    pm tti    pm bip8    stat    psi    payload    fec    any
-    jc    cnd    msi                        of all slots: JC1 to JC3, JC4 to JC6, the MSI bytes
+    fas    mfas    sm tti    sm bip8    pm tti    pm bip8    stat    psi    overhead    payload    fec    any
+    jc    cnd    msi          of all slots: JC1 to JC3, JC4 to JC6, the MSI bytes
     jc of slot 3    payload of slots 2,4    msi of port 2    payload of customer north
+    any of port 2             all places that it has: payload, jc, cnd and msi
     row 3 column 10    row 1 columns 10-14
+    any but any of port 2 but mfas    payload but payload of slot 3
 
 HOW:
 
@@ -32,6 +34,7 @@ HOW:
     ber 1e-4         each bit of it by chance
     burst 40 bits    in each run of frames 40 bits, of which the first and the last are wrong, and others by chance
     slip +3 bytes    before the first byte of each run three bytes come in; -3: three are missing
+    noise            random bytes
     drop             the frames are missing
     repeat           each run of frames comes twice
     ais              the frames are all ones, as the fibre carries them
@@ -41,11 +44,12 @@ A run are frames that follow one another. What is drawn by chance depends on `se
 from __future__ import annotations
 
 import functools
+import hashlib
 import math
 import random
 import re
 from dataclasses import dataclass
-from typing import Dict, Iterable, Iterator, List, Optional, Sequence, Tuple, TypeVar, Union
+from typing import Dict, Iterable, Iterator, List, NamedTuple, Optional, Sequence, Tuple, TypeVar, Union
 
 from otn_lines import FRAME, Bytes, Line, Place, at, folded, mask, parity_of, planned, xor
 
@@ -54,17 +58,17 @@ __all__ = ["Change", "Damaged", "changes_of", "damage", "undo"]
 T = TypeVar("T")
 STAT = {"AIS": 7, "OCI": 6, "LCK": 5}
 SM, PM = at(1, 9), at(3, 11)
+FEW = 32  # runs of a place that are written one by one
 
 _WHERE = r"(?:(?P<base>frame|turn)s? (?P<first>\d+)(?P<to>-(?P<last>\d*))? )?" \
     r"(?:every (?P<every>\d+) (?P<unit>frame|turn)s? )?(?:some (?P<some>\d+) frames? )?"
 _HOW = r"(?:(?P<name>xor|set) (?P<hex>(?:[0-9a-fA-F]{2})+)|stat (?P<signal>AIS|LCK|OCI)|ber (?P<rate>[0-9.eE+-]+)" \
-    r"|burst (?P<bits>\d+) bits?|slip (?P<slip>[+-]\d+) bytes?|(?P<alone>drop|repeat|ais))"
+    r"|burst (?P<bits>\d+) bits?|slip (?P<slip>[+-]\d+) bytes?|(?P<noise>noise)|(?P<alone>drop|repeat|ais))"
 _DAMAGE = re.compile(rf"{_WHERE}(?:(?P<what>[a-z].*?) )?{_HOW}")
 _CHANGE = re.compile(r"frame (\d+) byte (\d+)(?: step (\d+))? from ([0-9a-f]+|-) to ([0-9a-f]+|-)")
 
 
-@dataclass(frozen=True)
-class Change:
+class Change(NamedTuple):
     """Bytes that are others now. They stand at byte `byte` of the file and each `step` bytes on; where there are more or
     fewer of them than before, those behind have moved. Byte and frame are those of the file with all changes before."""
 
@@ -224,7 +228,7 @@ class _Step:
         if not found:
             raise ValueError(f"no damage: {words!r} (WHERE WHAT HOW, as `otn-damage --help` says)")
         self.words, self.line, self.dice, self.said = words, line, dice, found.groupdict()
-        self.how = next(it for it in ("name", "signal", "rate", "bits", "slip", "alone") if self.said[it])
+        self.how = next(it for it in ("name", "signal", "rate", "bits", "slip", "noise", "alone") if self.said[it])
         self.what = "stat" if self.how == "signal" else self.said["what"]
         if self.what and (self.how == "alone" or self.how == "signal" and self.said["what"]):
             raise ValueError(f"{words!r}: only whole frames are lost, repeated or all ones")
@@ -301,48 +305,88 @@ class _Step:
         if self.said["alone"] in ("drop", "repeat"):
             self.order = list(self._order())
             return _moved(data, [(FRAME * f, n, now) for f, n, now in self._frames_moved(data)])
-        if self.said["alone"] == "ais":
-            written = [(FRAME * f, b"\xff" * FRAME, 1) for f in self.frames]
-        elif self.how in ("rate", "bits"):
-            written = list(self._flipped(data))
+        if self.how in ("rate", "bits"):
+            changes = list(self._flipped(data))
         else:
-            written = list(self._written(data))
-        changes = [change for byte, now, step in written for change in _changed(data, byte, now, step)]
+            changes = [change for byte, now, step in self._written(data) for change in _changed(data, byte, now, step)]
         for change in changes:
-            data[change.offsets.start : change.offsets.stop : change.step] = change.now
+            data[change.byte : change.byte + change.step * len(change.now) : change.step] = change.now
         return data, changes
 
     def _written(self, data: bytearray) -> Iterator[Tuple[int, bytes, int]]:
-        """What is written by xor, set and stat: from which byte on, the bytes, and their distance."""
-        if self.how == "signal":
-            keep, pattern = 0xF8, bytes([STAT[self.said["signal"]]])
-        else:
-            keep, pattern = 0xFF if self.said["name"] == "xor" else 0, bytes.fromhex(self.said["hex"])
+        """What is written: from which byte on, the bytes, and their distance."""
+        if self.said["alone"] == "ais":
+            yield from ((FRAME * f, b"\xff" * FRAME, 1) for f in self.frames)
+            return
         for place, frames in self._places():
-            parts = []
-            for run in place.runs:
-                size, m = len(run), self.mask[run.start : run.stop : run.step]
-                tiled = pattern * ((run.first + run.stride * size) // len(pattern) + 1)
-                put = int.from_bytes(tiled[run.first : run.first + run.stride * size : run.stride], "big")
-                kept = int.from_bytes(bytes([keep]) * size, "big")
-                cleared = int.from_bytes(bytes([keep ^ 0xFF]) * size, "big")
-                parts.append((run, size, kept, put ^ (int.from_bytes(m, "big") & cleared)))
-            for f in frames:
-                for run, size, kept, put in parts:
-                    old = data[FRAME * f + run.start : FRAME * f + run.stop : run.step]
-                    now = (int.from_bytes(old, "big") & kept ^ put).to_bytes(size, "big")
-                    yield FRAME * f + run.start, now, run.step
+            writes = self._apart if len(place.runs) <= FEW else self._at_once
+            yield from writes(data, place, frames, *self._pattern(place))
 
-    def _flipped(self, data: bytearray) -> Iterator[Tuple[int, bytes, int]]:
+    def _pattern(self, place: Place) -> Tuple[int, Optional[bytes]]:
+        """Which bits of a byte stay as they are, and what they are XORed with: a byte for each of the place in a frame.
+        Of noise nothing stays, and what comes is drawn for each frame."""
+        size = len(place.offsets)
+        if self.how == "signal":
+            return 0xF8, bytes([STAT[self.said["signal"]]]) * size
+        if self.how == "noise":
+            return 0, None
+        pattern = bytes.fromhex(self.said["hex"])
+        return 0xFF if self.said["name"] == "xor" else 0, (pattern * (size // len(pattern) + 1))[:size]
+
+    def _noise(self, size: int) -> bytes:
+        return hashlib.shake_256(self.dice.random().hex().encode()).digest(size)
+
+    def _apart(
+        self, data: bytearray, place: Place, frames: List[int], keep: int, put: Optional[bytes]
+    ) -> Iterator[Tuple[int, bytes, int]]:
+        """What is written of a place, run by run."""
+        size = len(place.offsets)
+        noise = self._noise(size * len(frames)) if put is None else b""
+        for n, f in enumerate(frames):
+            drawn = put if put is not None else noise[n * size : (n + 1) * size]
+            for run in place.runs:
+                now = drawn[run.first : run.first + run.stride * len(run) : run.stride]
+                where = slice(FRAME * f + run.start, FRAME * f + run.stop, run.step)
+                yield where.start, self._over(data[where], keep, now, self.mask[run.start : run.stop : run.step]), run.step
+
+    def _at_once(
+        self, data: bytearray, place: Place, frames: List[int], keep: int, put: Optional[bytes]
+    ) -> Iterator[Tuple[int, bytes, int]]:
+        """What is written of a place of many runs, a frame at once."""
+        within, laid = bytearray(FRAME), bytearray(FRAME)
+        for n, x in enumerate(place.offsets):
+            within[x], laid[x] = 0xFF, put[n] if put else 0
+        inside = int.from_bytes(within, "big")
+        for f in frames:
+            now = self._noise(FRAME) if put is None else bytes(laid)
+            old = data[FRAME * f : FRAME * (f + 1)]
+            new = int.from_bytes(self._over(old, keep, now, self.mask), "big")
+            kept = int.from_bytes(old, "big")
+            yield FRAME * f, (kept ^ (kept ^ new) & inside).to_bytes(FRAME, "big"), 1
+
+    @staticmethod
+    def _over(old: Bytes, keep: int, put: bytes, masked: bytes) -> bytes:
+        """Bytes of which some bits stay and the others are XORed: as they are behind the descrambler."""
+        if keep == 0xFF:
+            return xor(old, put)
+        kept = int.from_bytes(bytes([keep]) * len(old), "big")
+        now = (int.from_bytes(old, "big") ^ int.from_bytes(masked, "big")) & kept
+        return (now ^ int.from_bytes(put, "big") ^ int.from_bytes(masked, "big")).to_bytes(len(old), "big")
+
+    def _flipped(self, data: bytearray) -> Iterator[Change]:
         """Single bytes with bits that are wrong by ber and burst."""
         flips: Dict[int, int] = {}
         for place, frames in self._places():
             size = 8 * len(place.offsets)
+            offsets = place.offsets
             for bit in self._bits(frames, size):
                 frame, x = divmod(bit, size)
-                byte = FRAME * frames[frame] + place.offsets[x // 8]
+                byte = FRAME * frames[frame] + offsets[x // 8]
                 flips[byte] = flips.get(byte, 0) ^ 0x80 >> x % 8
-        return ((byte, bytes([data[byte] ^ flips[byte]]), 1) for byte in sorted(flips))
+        for byte in sorted(flips):
+            if flips[byte]:
+                was = data[byte]
+                yield Change(byte // FRAME, byte, bytes((was,)), bytes((was ^ flips[byte],)))
 
     def _bits(self, frames: List[int], size: int) -> Iterator[int]:
         """The bits that are wrong: of these frames, each with `size` bits, as one list."""
@@ -426,9 +470,10 @@ class _Step:
 
 
 def _changed(data: bytearray, byte: int, now: bytes, step: int) -> Iterator[Change]:
-    """The changes where these bytes are written: of bytes that stay as they are, none."""
+    """The changes where these bytes are written."""
     was = bytes(data[byte : byte + step * len(now) : step])
-    for found in re.finditer(b"[^\\0]+", xor(was, now)):
+    # (few equal bytes between two that differ are told with them)
+    for found in re.finditer(b"[^\\0]+" if step > 1 else b"[^\\0]+(?:\\0{1,8}[^\\0]+)*", xor(was, now)):
         a, b = found.span()
         first = byte + step * a
         yield Change(first // FRAME, first, was[a:b], now[a:b], step if b - a > 1 else 1)

@@ -51,8 +51,9 @@ PLACES: Dict[str, Tuple[Tuple[int, int, int], ...]] = {
     "pm bip8": ((3, 11, 11),),
     "stat": ((3, 12, 12),),
     "psi": ((4, 15, 15),),
-    "fec": tuple((row, 3_825, ROW) for row in (1, 2, 3, 4)),
+    "overhead": ((1, 1, 14), (2, 1, 14), (3, 1, 14), (4, 1, 15)),
     "payload": tuple((row, 17, 3_824) for row in (1, 2, 3, 4)),
+    "fec": tuple((row, 3_825, ROW) for row in (1, 2, 3, 4)),
     "any": tuple((row, 1, ROW) for row in (1, 2, 3, 4)),
 }
 
@@ -95,11 +96,12 @@ class Place:
     mfas: Optional[Tuple[int, ...]] = None
     modulus: int = 256
     turns: Optional[Tuple[int, int]] = None  #: in these turns alone, both included
+    frames: Optional[Tuple[int, ...]] = None  #: in these frames alone
 
-    @functools.cached_property
-    def offsets(self) -> List[int]:
+    @property
+    def offsets(self) -> Sequence[int]:
         """The bytes of a frame, in order."""
-        return sorted(x for run in self.runs for x in range(run.start, run.stop, run.step))
+        return _offsets(self.runs)
 
 
 @dataclass(frozen=True)
@@ -309,15 +311,21 @@ class Line:
 
     def places(self, name: str) -> List[Place]:
         """The places of a name, as `otn.damage` says it: "sm bip8", "jc of port 2", "payload of slots 4,5",
-        "msi of customer north", "row 3 columns 10-12".
+        "msi of customer north", "row 3 columns 10-12". "any of port 2" are all places that this tributary has, and
+        "any but any of port 2 but mfas" is the frame without these and without MFAS.
 
         >>> import otn
         >>> otn.lines.Line(b"").places("jc of slot 3")[0]
         Place(name='jc of slot 3', runs=(Run(start=15, stop=16, step=1, first=0, stride=1), \
 Run(start=4095, stop=4096, step=1, first=1, stride=1), \
-Run(start=8175, stop=8176, step=1, first=2, stride=1)), mfas=(2,), modulus=8, turns=None)
+Run(start=8175, stop=8176, step=1, first=2, stride=1)), mfas=(2,), modulus=8, turns=None, frames=None)
         """
+        if " but " in name:
+            return self._without(name, *name.split(" but "))
         what, _, whose = name.partition(" of ")
+        if what == "any" and whose:
+            parts = [f"{one} of {whose}" for one in ("payload", *JUSTIFICATION)]
+            return [place for part in parts for place in self.places(part)]
         if whose and what not in ("payload", *JUSTIFICATION):
             raise ValueError(f"{what!r} is of the line, and of no slot or port")
         if whose:
@@ -363,9 +371,30 @@ Run(start=8175, stop=8176, step=1, first=2, stride=1)), mfas=(2,), modulus=8, tu
             return Place(name, runs, tuple(k + 1 for k in slots), turns=turns)
         return Place(name, runs, tuple(k - 1 for k in said), self.slots, turns)
 
+    def _without(self, name: str, whole: str, *parts: str) -> List[Place]:
+        """A place without some others: one for each kind of frames that have the same ones of them."""
+        of_frame: Dict[int, List[Place]] = {}
+        for place in self.places(whole):
+            for f in self.stands(place):
+                of_frame.setdefault(f, []).append(place)
+        out_of: Dict[int, List[Place]] = {}
+        for part in parts:
+            for place in self.places(part):
+                for f in self.stands(place):
+                    out_of.setdefault(f, []).append(place)
+        kinds: Dict[Tuple[Tuple[Place, ...], Tuple[Place, ...]], List[int]] = {}
+        for f, whole_of in of_frame.items():
+            kinds.setdefault((tuple(whole_of), tuple(out_of.get(f, ()))), []).append(f)
+        found = []
+        for (within, out), those in kinds.items():
+            left = {x for place in within for x in place.offsets}.difference(*(place.offsets for place in out))
+            if left:
+                found.append(Place(name, _joined(sorted(left)), frames=tuple(sorted(those))))
+        return found
+
     def stands(self, place: Place) -> List[int]:
         """The frames in which a place stands."""
-        frames: Sequence[int] = range(self.count)
+        frames: Sequence[int] = range(self.count) if place.frames is None else place.frames
         if place.mfas is not None:
             values = set(place.mfas)
             frames = [f for f in frames if self.expected[f] % place.modulus in values]
@@ -392,6 +421,24 @@ Run(start=8175, stop=8176, step=1, first=2, stride=1)), mfas=(2,), modulus=8, tu
         if self.scrambled:
             whole = whole ^ numpy.frombuffer(mask(), numpy.uint8)
         return numpy.concatenate([whole[self.stands(place)][:, place.offsets] for place in self.places(name)])
+
+
+@functools.lru_cache(maxsize=256)
+def _offsets(runs: Tuple[Run, ...]) -> Sequence[int]:
+    if len(runs) == 1:
+        return range(runs[0].start, runs[0].stop, runs[0].step)
+    return sorted(x for run in runs for x in range(run.start, run.stop, run.step))
+
+
+def _joined(offsets: Sequence[int]) -> Tuple[Run, ...]:
+    """Bytes of a frame, rising, as runs."""
+    found: List[Run] = []
+    for number, x in enumerate(offsets):
+        if found and found[-1].stop == x:
+            found[-1] = Run(found[-1].start, x + 1, 1, found[-1].first)
+        else:
+            found.append(Run(x, x + 1, 1, number))
+    return tuple(found)
 
 
 def _runs(pieces: Sequence[Tuple[int, int, int]]) -> Tuple[Run, ...]:
