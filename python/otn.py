@@ -66,11 +66,12 @@ from typing import Dict, List, Mapping, Optional, Sequence, Tuple, Union
 
 import otn_lines as lines
 from otn_damage import Damaged, damage, undo
+from otn_packets import Counts, count, test_packets
 
 __all__ = [
-    "CLIENTS", "FRAME", "LINES", "MULTIFRAME", "RULES", "VERSION", "ClientIn", "ClientOut", "Damaged", "LineIn",
-    "LineOut", "Records", "Result", "Status", "call", "check", "damage", "lines", "packets", "protect", "pull", "run",
-    "slot", "text", "trial", "undo", "version",
+    "CLIENTS", "FRAME", "LINES", "MULTIFRAME", "RULES", "VERSION", "ClientIn", "ClientOut", "Counts", "Damaged", "LineIn",
+    "LineOut", "Records", "Result", "Status", "call", "check", "count", "damage", "lines", "packets", "protect", "pull",
+    "run", "slot", "test_packets", "text", "trial", "undo", "version",
 ]
 
 VERSION = 1  #: the version of the library that this file is for (OTN_VERSION of include/otn.h)
