@@ -66,12 +66,14 @@ from typing import Dict, List, Mapping, Optional, Sequence, Tuple, Union
 
 import otn_lines as lines
 from otn_damage import Damaged, damage, undo
+from otn_events import Events, events
 from otn_packets import Counts, count, test_packets
+from otn_views import View, view
 
 __all__ = [
-    "CLIENTS", "FRAME", "LINES", "MULTIFRAME", "RULES", "VERSION", "ClientIn", "ClientOut", "Counts", "Damaged", "LineIn",
-    "LineOut", "Records", "Result", "Status", "call", "check", "count", "damage", "lines", "packets", "protect", "pull",
-    "run", "slot", "test_packets", "text", "trial", "undo", "version",
+    "CLIENTS", "FRAME", "LINES", "MULTIFRAME", "RULES", "VERSION", "ClientIn", "ClientOut", "Counts", "Damaged",
+    "Events", "LineIn", "LineOut", "Records", "Result", "Status", "View", "call", "check", "count", "damage", "events",
+    "lines", "packets", "protect", "pull", "run", "slot", "test_packets", "text", "trial", "undo", "version", "view",
 ]
 
 VERSION = 1  #: the version of the library that this file is for (OTN_VERSION of include/otn.h)

@@ -192,7 +192,8 @@ def _toml(plan: Union[str, bytes]) -> Any:
 class Line:
     """A line in memory. The bytes are kept and not changed.
 
-    `tributaries` are those of a plan, where `planned` has found them; else those that most MSI bytes of the line tell.
+    `tributaries` are those of a plan, where `planned` has found them. Else they are those that most MSI bytes of the line
+    tell, and of two that come as often the later one.
     """
 
     def __init__(
@@ -279,17 +280,15 @@ class Line:
         """The tributaries: those that were given, else by most of the MSI bytes of each slot."""
         if self._given is not None:
             return list(self._given)
-        came: Dict[int, Dict[int, int]] = {}
+        came: Dict[int, List[int]] = {}
         psi, x = at(4, 15), mask()[at(4, 15)] if self.scrambled else 0
         for turn in self.turns:
             for f in turn.frames if turn.state == "whole" else ():
                 if 2 <= self.expected[f] <= 1 + self.slots:
-                    of = came.setdefault(self.expected[f] - 1, {})
-                    byte = self.data[FRAME * f + psi] ^ x
-                    of[byte] = of.get(byte, 0) + 1
+                    came.setdefault(self.expected[f] - 1, []).append(self.data[FRAME * f + psi] ^ x)
         ports: Dict[int, List[int]] = {}
         for slot in sorted(came):
-            byte = max(came[slot], key=lambda b: came[slot][b])
+            byte = max(reversed(came[slot]), key=came[slot].count)
             if 0x80 <= byte < 0x80 + self.slots:
                 ports.setdefault(byte - 0x7F, []).append(slot)
         return [Tributary(port, tuple(slots)) for port, slots in sorted(ports.items())]
