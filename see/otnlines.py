@@ -1,5 +1,5 @@
-"""What a line file carries, turn by turn: a reader of docs/FORMATS.md that is not proved. Pictures and maps have from
-it what otn_view does not tell (viewtext.py), and all numbers where otn_view is not built.
+"""What a line file carries, turn by turn: a reader of docs/FORMATS.md that is not proved. Pictures, maps and pages have
+from it what otn_view does not tell (viewtext.py), and all numbers where otn_view is not built.
 
 The rules are those of docs/FORMATS.md: alignment of a line, justification, a sink's turns, client frame, GFP.
 Frames and bytes are counted from 0, turns, slots, ports, rows and columns from 1.
@@ -7,253 +7,23 @@ Frames and bytes are counted from 0, turns, slots, ports, rows and columns from 
     line = otnlines.Line.read('line-0.out')
     line.turns[t - 1]        a Turn: alignment, counts, MSI bytes, messages
     line.tributaries         a list of Tributary, each with a list `turns` of Heard
+    line.heads[64 * f:][:64] the overhead of frame f: columns 1 to 16 of row 1, of row 2, of row 3, of row 4
+    line.parity[f]           the BIP-8 of frame f, as it is computed
+
+Packets are handed over as they come: `Line.read(.., seen=call)` calls call(tributary, turn, packet, size) for each
+GFP frame of a client, its packet or None where its checks are wrong, and the bytes of its area.
 """
 import argparse
-import binascii
 import signal
-from functools import lru_cache
 
 import viewtext
+from clients import Client, ais
+from frames import FAS, FRAME, HEAD, P, Frames, at, bip8, crc5, crc8, data_groups, hear, in_head, mask, sapi_of
 from networks import read_plan
 
-FRAME, ROW, P, ODU = 16320, 4080, 15232, 15296
-FAS = bytes.fromhex('f6f6f6282828')
-STAT = {1: 'normal', 5: 'LCK', 6: 'OCI', 7: 'AIS'}
+PSI, SM, PM = in_head(4, 15), in_head(1, 9), in_head(3, 11)
+MESSAGE = [in_head(r, c) for c in (16, 15) for r in (1, 2, 3)]
 
-
-def at(row, column):
-    return ROW * (row - 1) + column - 1
-
-
-# --------------------------------------------------------------- checks
-
-def long_division(value, bits, generator, degree):
-    rest = value << degree
-    for i in range(bits + degree - 1, degree - 1, -1):
-        if rest >> i & 1:
-            rest ^= generator << (i - degree)
-    return rest
-
-
-@lru_cache(maxsize=None)
-def crc8(jc1, jc2):
-    return long_division(jc1 << 8 | jc2, 16, 0x10D, 8)
-
-
-@lru_cache(maxsize=None)
-def crc5(d):
-    return long_division(d, 10, 0x23, 5)
-
-
-def crc16(two):
-    return binascii.crc_hqx(two, 0)
-
-
-REVERSED = bytes(int(f'{b:08b}'[::-1], 2) for b in range(256))
-
-
-def crc32(data):
-    return int.from_bytes(binascii.crc32(data.translate(REVERSED)).to_bytes(4, 'little').translate(REVERSED), 'big')
-
-
-def bip8(frame):
-    """The XOR of columns 15 to 3824 of the four rows."""
-    x = 0
-    for r in range(4):
-        x ^= int.from_bytes(frame[ROW * r + 14:ROW * r + 3824], 'big')
-    for span in (16384, 8192, 4096, 2048, 1024, 512, 256, 128, 64, 32, 16, 8):
-        x = (x >> span) ^ (x & (1 << span) - 1)
-    return x
-
-
-@lru_cache(maxsize=None)
-def mask():
-    bits = [1] * 16
-    for i in range(16, (FRAME - 6) * 8):
-        bits.append(bits[i - 1] ^ bits[i - 3] ^ bits[i - 12] ^ bits[i - 16])
-    return int(''.join(map(str, bits)), 2)
-
-
-def sapi_of(letters):
-    """The text of bytes 1 to 15 of a trace, where all came."""
-    if any(i not in letters for i in range(1, 16)):
-        return ''
-    return ''.join(chr(letters[i]) for i in range(1, 16) if 32 <= letters[i] < 127)
-
-
-# --------------------------------------------------------------- messages
-
-PATTERNS = {(2, 0x2AAA): 1, (1, 0x1555): -1, (2, 0x1999): 2, (1, 0x2666): -2}
-
-
-def hear(former, six, m):
-    """('damaged' | 'base lost' | 'heard', Cm, CnD, how it was said)."""
-    jc1, jc2, jc3, jc4, jc5, jc6 = six
-    d = (jc4 & 31) << 5 | jc5 & 31
-    if crc8(jc1, jc2) != jc3 or crc5(d) != jc6 & 31 or d >= m:
-        return 'damaged', None, None, None
-    bits, flags = jc1 << 6 | jc2 >> 2, jc2 & 3
-    if flags in (0, 3):
-        number, how = bits, 'outright' if flags else '='
-    else:
-        step = None if former is None else PATTERNS.get((flags, former ^ bits))
-        if step is None:
-            return 'base lost', None, None, None
-        number, how = former + step, f'{step:+d}'
-    if not 0 <= number <= P:
-        return 'damaged', None, None, None
-    return 'heard', number, d, how
-
-
-def data_groups(groups, c, m):
-    if c == P:
-        return groups
-    if c * 2 > P:
-        out, last, n = [], 0, P - c
-        for s in range(n):
-            j = s * P // n                       # groups before the s-th stuff group
-            out.append(groups[m * last:m * j])
-            last = j + 1
-        out.append(groups[m * last:])
-        return b''.join(out)
-    return b''.join(groups[m * (j - 1):m * j] for j in (-(-d * P // c) for d in range(1, c + 1)))
-
-
-# --------------------------------------------------------------- clients
-
-class Gfp:
-    """GFP frames out of the payload of client frames."""
-
-    def __init__(self):
-        self.state, self.text, self.six, self.skip = 'hunt', b'', bytes(6), 0
-        self.idle = 0
-
-    @staticmethod
-    def header(four, near):
-        x = int.from_bytes(four, 'big') ^ 0xB6AB31E0
-        right = lambda v: crc16((v >> 16).to_bytes(2, 'big')) == v & 0xFFFF
-        if right(x):
-            return x >> 16
-        if near:
-            for b in range(32):
-                if right(x ^ 1 << b):
-                    return (x ^ 1 << b) >> 16
-        return None
-
-    def take(self, data):
-        """The frames that end: (packet or None, length of the area)."""
-        out, t, i = [], self.text + data, 0
-        while True:
-            if self.state == 'hunt':
-                while len(t) - i >= 4 and self.header(t[i:i + 4], False) is None:
-                    i += 1
-                if len(t) - i < 4:
-                    break
-                pli = self.header(t[i:i + 4], False)
-                self.state, self.skip = 'presync', pli if pli >= 4 else 0
-                i += 4
-            if len(t) - i < self.skip:
-                break
-            if self.skip and self.state == 'sync':
-                got = t[i:i + self.skip]
-                x = int.from_bytes(self.six + got, 'big')
-                area = (x ^ x >> 43).to_bytes(len(got) + 6, 'big')[6:]
-                self.six = (self.six + got)[-6:]
-                out.append((self.packet(area), len(area)))
-            i, self.skip = i + self.skip, 0
-            if len(t) - i < 4:
-                break
-            pli = self.header(t[i:i + 4], self.state == 'sync')
-            if pli is None:
-                self.state, i = 'hunt', i + 1
-            else:
-                self.state, self.skip, i = 'sync', pli if pli >= 4 else 0, i + 4
-                self.idle += pli == 0
-        self.text = t[i:]
-        return out
-
-    @staticmethod
-    def packet(area):
-        pti, pfi, exi = area[0] >> 5, area[0] >> 4 & 1, area[0] & 15
-        if pti or exi or area[1] != 1 or crc16(area[:2]) != int.from_bytes(area[2:4], 'big'):
-            return None
-        rest = area[4:]
-        if pfi:
-            if len(rest) < 5 or crc32(rest[:-4]) != int.from_bytes(rest[-4:], 'big'):
-                return None
-            rest = rest[:-4]
-        return rest or None
-
-
-class Client:
-    """Client frames out of the bytes that a sink emits."""
-
-    def __init__(self):
-        self.text, self.framed, self.misses, self.gfp = b'', False, 0, Gfp()
-        self.fresh = True
-        self.sapi, self.letters = '', {}
-        self.recent, self.shown = [], ''
-
-    def take(self, data):
-        """STAT of each whole frame that ends, the GFP frames as `Gfp.take` has them, breaks by lost alignment."""
-        stats, packets, breaks, t, i = [], [], 0, self.text + data, 0
-        while True:
-            if not self.framed:
-                f = t.find(FAS, i)
-                if f < 0:
-                    i = max(i, len(t) - 5)
-                    break
-                i, self.framed, self.misses, self.fresh = f, True, 0, True
-            if len(t) - i < 6:
-                break
-            if self.fresh:
-                self.fresh = False
-                self.misses = 0 if t[i:i + 6] == FAS else self.misses + 1
-                if self.misses == 5:
-                    self.framed, i, breaks, self.gfp = False, i + 6, breaks + 1, Gfp()
-                    self.recent, self.shown = [], ''
-                    continue
-            if len(t) - i < ODU:
-                break
-            stat, frames = self.frame(t[i:i + ODU])
-            i, self.fresh = i + ODU, True
-            stats.append(stat)
-            packets += frames
-        self.text = t[i:]
-        return stats, packets, breaks
-
-    def frame(self, f):
-        """STAT of one whole client frame, and the GFP frames that end in it."""
-        stat = f[2 * 3824 + 11] & 7
-        # three frames in a row, each with its FAS, that say the same
-        self.recent = (self.recent + [stat if self.misses == 0 else None])[-3:]
-        if len(set(self.recent)) == 1 and len(self.recent) == 3 and stat in STAT and self.misses == 0:
-            self.shown = STAT[stat]
-        if stat >= 5:
-            self.gfp = Gfp()
-            return stat, []
-        self.letters[f[6] % 64] = f[2 * 3824 + 9]
-        if f[6] % 64 == 15:
-            self.sapi = sapi_of(self.letters) or self.sapi
-        return stat, self.gfp.take(b''.join(f[3824 * r + 16:3824 * (r + 1)] for r in range(4)))
-
-
-@lru_cache(maxsize=None)
-def ais_frame(f):
-    return FAS + bytes([f]) + bytes(7) + b'\xff' * (3824 + 13 - 14) + b'\0' + b'\xff' * (ODU - 3824 - 14)
-
-
-def ais(begin, size):
-    out, place = bytearray(), begin % (256 * ODU)
-    while len(out) < size:
-        f, x = divmod(place, ODU)
-        part = ais_frame(f)[x:x + size - len(out)]
-        out += part
-        place = (place + len(part)) % (256 * ODU)
-    return bytes(out)
-
-
-# --------------------------------------------------------------- a tributary
 
 class Heard:
     """One turn of a tributary."""
@@ -276,9 +46,11 @@ class Heard:
 
 
 class Tributary:
-    """A port on some slots of a line, from turn `start` to turn `stop`, both included, with its sink."""
+    """A port on some slots of a line, from turn `start` to turn `stop`, both included, with its sink. `seen` is called
+    for each GFP frame."""
 
     def __init__(self, port, slots, start=1, stop=None, name=''):
+        self.seen = None
         self.port, self.slots, self.m = port, tuple(slots), len(slots)
         self.start, self.stop, self.name = start, stop, name
         self.turns = []
@@ -313,10 +85,10 @@ class Tributary:
         self.hand_over(h, out)
 
     def see_msi(self, turn, h):
-        for n, f in enumerate(turn.frames):
+        for n, psi in enumerate(turn.psi):
             k = (turn.first + n) % 256 - 1
             if k in self.came:
-                self.came[k] = self.came[k][1], f[at(4, 15)] != 127 + self.port
+                self.came[k] = self.came[k][1], psi != 127 + self.port
         h.marked = [k for k, two in self.came.items() if two == (True, True)]
 
     def wait(self, h, c, d):
@@ -348,7 +120,7 @@ class Tributary:
 
     def extract(self, turn, s):
         """A turn of a stretch, but for its first and its last: what it emits."""
-        payload = turn.payload()
+        payload = turn.payload
         if self.m == s:
             groups = payload
         else:
@@ -369,6 +141,8 @@ class Tributary:
         h.size = len(out)
         h.stats, packets, h.breaks = self.client.take(out)
         for p, n in packets:
+            if self.seen:
+                self.seen(self, h.turn, p, n)
             if p is None:
                 h.bad += 1
             else:
@@ -389,45 +163,37 @@ class Turn:
         self.number = number
         self.alignment = 'ok'         # ok, lost, hunt; end: the line ended in it, the last one
         self.first = None             # expected MFAS of the first frame
-        self.frames = None            # the frames of its multiframe
+        self.frames = None            # which frames are its multiframe
         self.used = range(0)          # frames used in the turn, lead-in among them
         self.lead = 0
         self.fas = self.mfas = self.sm = self.pm = 0
         self.msi = {}                 # slot: MSI byte that came in this turn
-        self.messages = []
-        self.c = {}                   # slot: (message, Cm, how) as each slot's own listener hears it
-        self._payload = None
-
-    def payload(self):
-        """The payload bytes of its multiframe, in the order of the line."""
-        if self._payload is None:
-            self._payload = b''.join(f[ROW * r + 16:ROW * r + 3824] for f in self.frames for r in range(4))
-        return self._payload
+        self.psi = b''                # the PSI byte of each frame of its multiframe
+        self.messages = []            # JC1 to JC6 of each
+        self.c = {}                   # slot: (message, Cm, CnD, how) as each slot's own listener hears it
+        self.payload = None           # of its multiframe, in the order of the line, while sinks take it
 
 
 class Line:
     """A line file: its form, its turns, its tributaries."""
 
     @classmethod
-    def read(cls, path, s=None, scrambled=None, tributaries=None):
+    def read(cls, path, s=None, scrambled=None, tributaries=None, seen=None):
         """Form and tributaries as given; what is None is taken from the bytes."""
         line = cls()
-        line.path = path
-        data = open(path, 'rb').read()
-        line.count = len(data) // FRAME
-        line.rest = len(data) % FRAME
-        line.guess(data, s, scrambled)
-        m = mask() if line.scrambled else 0
-        frames = []
-        for i in range(line.count):
-            f = data[FRAME * i:FRAME * (i + 1)]
-            if m:
-                f = f[:6] + (int.from_bytes(f[6:], 'big') ^ m).to_bytes(FRAME - 6, 'big')
-            frames.append(f)
-        line.align(frames)
-        line.overhead(frames)
-        line.follow(tributaries)
+        line.path, line.file = path, Frames(path)
+        line.count, line.rest = line.file.count, line.file.rest
+        line.guess(line.file.data, s, scrambled)
+        line.file.unmask(line.scrambled)
+        line.heads, line.parity = line.file.heads()
+        line.align(line.file.mfas())
+        line.overhead()
+        line.follow(tributaries, seen)
         return line
+
+    def head(self, f):
+        """The 64 overhead bytes of a frame."""
+        return self.heads[HEAD * f:HEAD * (f + 1)]
 
     def guess(self, data, s, scrambled):
         """The form, and the MSI bytes that the slots first have, by the first 320 frames. Scrambled where more MFAS
@@ -451,9 +217,9 @@ class Line:
         self.s = s or (32 if wide > 0 else 8)
         self.kind = 'OTU3' if self.s == 32 else 'OTU2'
 
-    def align(self, frames):
-        """Turns by the rules of "Alignment of a line"."""
-        s, mf, self.turns = self.s, [f[6] for f in frames], []
+    def align(self, mf):
+        """Turns by the rules of "Alignment of a line", from the MFAS byte of each frame."""
+        s, self.turns = self.s, []
         i, e = 0, None
         while True:
             turn = Turn(len(self.turns) + 1)
@@ -483,39 +249,42 @@ class Line:
             if turn.mfas > s // 2:
                 turn.alignment, e = 'lost', None
             else:
-                turn.frames = frames[first:i]
+                turn.frames = range(first, i)
                 e = (e + s) % 256
             self.turns.append(turn)
 
-    def overhead(self, frames):
+    def overhead(self):
         """FAS, parity, section trace, MSI bytes and messages of each turn."""
-        parity = [bip8(f) for f in frames]
-        letters = {}
-        numbers = {}
+        letters, numbers = {}, {}
         self.sapi = ''
         for turn in self.turns:
             for f in turn.used:
-                x = frames[f]
+                x = self.head(f)
                 turn.fas += x[:6] != FAS
                 if f >= 2:
-                    turn.sm += x[at(1, 9)] != parity[f - 2]
-                    turn.pm += x[at(3, 11)] != parity[f - 2]
-                letters[x[6] % 64] = x[at(1, 8)]
+                    turn.sm += x[SM] != self.parity[f - 2]
+                    turn.pm += x[PM] != self.parity[f - 2]
+                letters[x[6] % 64] = x[in_head(1, 8)]
             self.sapi = self.sapi or sapi_of(letters)
-            if turn.frames is None:
-                continue
-            for n, f in enumerate(turn.frames):
-                k = (turn.first + n) % 256 - 1
-                if 1 <= k <= self.s:
-                    turn.msi[k] = f[at(4, 15)]
-                six = bytes(f[at(r, 16)] for r in (1, 2, 3)) + bytes(f[at(r, 15)] for r in (1, 2, 3))
-                turn.messages.append(six)
-                message, c, d, how = hear(numbers.get(n + 1), six, 1 << 10)
-                if c is not None:
-                    numbers[n + 1] = c
-                elif message == 'base lost':
-                    numbers.pop(n + 1, None)
-                turn.c[n + 1] = (message, c, d, how)
+            if turn.frames is not None:
+                self.multiframe(turn, numbers)
+
+    def multiframe(self, turn, numbers):
+        """MSI bytes and messages of a whole turn; `numbers` has Cm of each slot."""
+        heads = [self.head(f) for f in turn.frames]
+        turn.psi = bytes(x[PSI] for x in heads)
+        for n, x in enumerate(heads):
+            k = (turn.first + n) % 256 - 1
+            if 1 <= k <= self.s:
+                turn.msi[k] = x[PSI]
+            six = bytes(x[i] for i in MESSAGE)
+            turn.messages.append(six)
+            message, c, d, how = hear(numbers.get(n + 1), six, 1 << 10)
+            if c is not None:
+                numbers[n + 1] = c
+            elif message == 'base lost':
+                numbers.pop(n + 1, None)
+            turn.c[n + 1] = (message, c, d, how)
 
     def msi_of(self):
         """Per turn the MSI byte of each slot: the last that came, before the first one what `guess` saw, or None."""
@@ -525,29 +294,38 @@ class Line:
             out.append([now.get(k, self.first.get(k)) for k in range(1, self.s + 1)])
         return out
 
-    def follow(self, tributaries):
+    def tributaries_by_msi(self):
+        """The tributaries that the MSI bytes tell, each in its turns."""
+        found, open_ = [], {}
+        for turn, msi in zip(self.turns, self.msi_of()):
+            ports = {}
+            for k, b in enumerate(msi, 1):
+                if b is not None and 0x80 <= b < 0xC0:
+                    ports.setdefault(b - 127, []).append(k)
+            for key in [x for x in open_ if ports.get(x[0]) != list(x[1])]:
+                open_.pop(key).stop = turn.number - 1
+            for port, slots in sorted(ports.items()):
+                key = (port, tuple(slots))
+                if key not in open_:
+                    open_[key] = Tributary(port, slots, turn.number)
+                    found.append(open_[key])
+        return found
+
+    def follow(self, tributaries, seen):
         """The tributaries, as given or as the MSI bytes say, each through its turns."""
-        if tributaries is None:
-            tributaries, open_ = [], {}
-            for turn, msi in zip(self.turns, self.msi_of()):
-                ports = {}
-                for k, b in enumerate(msi, 1):
-                    if b is not None and 0x80 <= b < 0xC0:
-                        ports.setdefault(b - 127, []).append(k)
-                for key in [x for x in open_ if ports.get(x[0]) != list(x[1])]:
-                    open_.pop(key).stop = turn.number - 1
-                for port, slots in sorted(ports.items()):
-                    key = (port, tuple(slots))
-                    if key not in open_:
-                        open_[key] = t = Tributary(port, slots, turn.number)
-                        tributaries.append(t)
-        self.tributaries = tributaries
-        for t in tributaries:
-            t.stop = min(t.stop or len(self.turns), len(self.turns))
-            for turn in self.turns[t.start - 1:t.stop]:
-                t.take(turn, self.s)
+        self.tributaries = self.tributaries_by_msi() if tributaries is None else tributaries
+        begin = {}
+        for t in self.tributaries:
+            t.stop, t.seen = min(t.stop or len(self.turns), len(self.turns)), seen
+            begin.setdefault(t.start, []).append(t)
+        active = []
         for turn in self.turns:
-            turn._payload = None
+            active = [t for t in active + begin.get(turn.number, []) if turn.number <= t.stop]
+            if active and turn.frames is not None:
+                turn.payload = b''.join(map(self.file.payload, turn.frames))
+            for t in active:
+                t.take(turn, self.s)
+            turn.payload = None
 
 
 def from_plan(path, side, number):
