@@ -6,6 +6,9 @@ PORTS = ['#4878b0', '#e8892b', '#4f9d57', '#9a6fb0', '#3aa6a0', '#d9b12e', '#967
 SHADES = [(100, 0), (72, 0), (62, 38), (50, 20)]      # percent of the colour, percent of white
 INK, DIM, PALE, GRID = '#1f2733', '#6b7684', '#eef1f5', '#d5dbe3'
 GOOD, BAD, WARN = '#3c9a5f', '#d3322f', '#e0a100'
+SIGNAL = {'AIS': '#e0672b', 'LCK': '#5d4a8a', 'OCI': '#2f7fbf'}
+ALIGN = {'ok': GOOD, 'end': '#9aa4b1', 'hunt': WARN, 'lost': BAD}         # of a turn of a line, the worst last
+RANK = ['down', 'AIS', 'LCK', 'OCI', 'waiting', 'empty', 'up']             # of a tributary, the worst first
 FONT = 'DejaVu Sans, Segoe UI, Helvetica, Arial, sans-serif'
 
 
@@ -15,6 +18,15 @@ def colour(port):
     own, white = SHADES[(port - 1) // 8 % 4]
     rgb = [int(base[i:i + 2], 16) for i in (1, 3, 5)]
     return '#' + ''.join(f'{min(255, (v * own + 255 * white) // 100):02x}' for v in rgb)
+
+
+def look_of(h):
+    """How a tributary is in a turn: a word of RANK."""
+    if h.state != 'up':
+        return h.state
+    if h.client in SIGNAL:
+        return h.client
+    return 'up' if h.c else 'empty'
 
 
 def slots_text(slots, to='–', comma=', '):

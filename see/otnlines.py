@@ -340,7 +340,7 @@ def from_plan(path, side, number):
     return s, number in plan.get(f'scrambled-{side}', []), out
 
 
-def from_words(words, *switches):
+def from_words(words, *switches, seen=None):
     """The line that the words of a command name, and which of the switches stand in them."""
     signal.signal(signal.SIGPIPE, signal.SIG_DFL)     # as where `head` has seen enough
     a = argparse.ArgumentParser(usage=words.split('\n')[2].strip(), description=words.split('\n')[0])
@@ -351,17 +351,15 @@ def from_words(words, *switches):
     for name in switches:
         a.add_argument(f'--{name}', action='store_true')
     a = a.parse_args()
-    given = (None, None, None)
+    given, plan = (None, None, None), ()
     if a.plan:
-        side = 'out' if a.side_in is None else 'in'
-        given = from_plan(a.plan, side, a.side_in if side == 'in' else a.side_out or 0)
+        side, number = ('out', a.side_out or 0) if a.side_in is None else ('in', a.side_in)
+        given = from_plan(a.plan, side, number)
+        with open(a.plan) as file:
+            plan = file.read(), side, number
     try:
-        line = Line.read(a.line, *given)
+        line = Line.read(a.line, *given, seen)
     except OSError as fault:
         raise SystemExit(f'{a.line}: {fault.strerror}')
-    if a.plan:
-        with open(a.plan) as plan:
-            line.sources = viewtext.lay_over(line, plan.read(), side, a.side_in if side == 'in' else a.side_out or 0)
-    else:
-        line.sources = viewtext.lay_over(line)
+    viewtext.lay_over(line, *plan)
     return line, [getattr(a, name) for name in switches]

@@ -18,13 +18,15 @@ PAIRS = ('frames', 'lead-in', 'fas', 'sm', 'pm')
 # whose the numbers are, as pictures and maps say it
 TOLD = ('otn_view, proved: turns, FAS, SM and PM counts, MSI, states, Cm, CnD, bytes emitted',
         'this script, not proved: traces, MFAS counts, damaged messages, client packets, AIS, LCK, OCI')
-READ = ('this script, not proved: all numbers, since otn_view is not built',)
+NOT_BUILT = 'otn_view is not built'
+MOST_TURNS = 16384                                    # that otn_view tells
 
 
 def program():
     """otn_view: as OTN_VIEW says, as it was built here, or as it stands on the path; None where there is none."""
-    built = str(BUILT) if BUILT.exists() else shutil.which('otn_view')
-    return os.environ.get('OTN_VIEW', built)
+    if 'OTN_VIEW' in os.environ:
+        return shutil.which(os.environ['OTN_VIEW'])
+    return str(BUILT) if BUILT.exists() else shutil.which('otn_view')
 
 
 def plan_of(line):
@@ -32,22 +34,20 @@ def plan_of(line):
     wide = ', '.join(['0'] if line.s == 32 else [])
     mask = '0' if line.scrambled else ''
     text = f'version = 2\nturns = 16384\notu3-in = [{wide}]\notu3-out = [{wide}]\nscrambled-in = [{mask}]\n'
-    for i, t in enumerate(line.tributaries):
+    for i, t in enumerate(t for t in line.tributaries if t.start <= MOST_TURNS):
         place = f'{{ line = 0, port = {t.port}, slots = {list(t.slots)} }}'
         text += (f'[[connection]]\nname = "t{i}"\nkind = "{"odu0" if t.m == 1 else "flex"}"\n'
-                 f'from = {place}\nto = {place}\nstart = {t.start}\nstop = {max(t.start, t.stop)}\n')
+                 f'from = {place}\nto = {place}\nstart = {t.start}\nstop = {min(max(t.start, t.stop), MOST_TURNS)}\n')
     return text
 
 
 def text_of(path, plan, side, number):
-    """What otn_view tells of line `number` of a plan."""
+    """What otn_view tells of line `number` of a plan, and its complaint where it tells nothing."""
     with tempfile.TemporaryDirectory() as folder:
         pathlib.Path(folder, 'plan.toml').write_text(plan)
         run = subprocess.run([os.path.abspath(program()), os.path.abspath(path), side, str(number)], cwd=folder,
                              capture_output=True, text=True)
-    if run.returncode > 1:
-        sys.exit(run.stderr.strip())
-    return run.stdout.splitlines()
+    return ([], run.stderr.strip()) if run.returncode > 1 else (run.stdout.splitlines(), '')
 
 
 def put_turn(turn, words, first):
@@ -82,10 +82,19 @@ def lay(line, text):
 
 
 def lay_over(line, plan=None, side='in', number=0):
-    """Puts what otn_view tells of the line in the place of what was read of it: by this plan, or as it was read.
-    Answers whose the numbers are."""
-    if program() is None:
-        print('otn_view is not built: these numbers are not proved (see/README.md)', file=sys.stderr)
-        return READ
-    lay(line, text_of(line.path, plan_of(line) if plan is None else plan, side, number))
-    return TOLD
+    """Puts what otn_view tells of the line in the place of what was read of it: by this plan, or as it was read. Then
+    `sources` says whose the numbers are, `told` of how many turns otn_view told, `complaint` why of none."""
+    line.told, line.planned, text = 0, plan is not None, []
+    line.complaint = NOT_BUILT if program() is None else '' if os.path.isfile(line.path) else \
+        f'{line.path} is no file, and can be read once only'
+    if not line.complaint:
+        text, line.complaint = text_of(line.path, plan_of(line) if plan is None else plan, side, number)
+    if line.complaint:
+        if plan is not None and program() is not None and os.path.isfile(line.path):
+            sys.exit(line.complaint)
+        print(f'{line.complaint}: these numbers are not proved (see/README.md)', file=sys.stderr)
+        line.sources = (f'this script, not proved: all numbers, since {line.complaint}',)
+        return
+    lay(line, text)
+    line.told = min(len(line.turns), MOST_TURNS)
+    line.sources = TOLD
