@@ -20,6 +20,7 @@ pub mod Retiring
 pub mod Sent
 pub mod SpoiledPorts
 pub mod Spoiling
+pub mod SystemAnswer
 pub mod Views
 pub mod Writes
 pub mod Steps

@@ -4,7 +4,8 @@
 //! - `mem_source`, `mem_sink`: ports in memory.
 //! - `listed_source`, `listed_sink`: ports in memory that fail at listed calls, counted by `listed_calls`.
 //! - `spoiled_source`: a source that spoils bytes of another by `masks` of their places.
-//! - `reader_source`, `writer_sink`: ports over the system's files and output.
+//! - `reader_source`, `writer_sink`: ports over the system's files and output, by the calls in `system`;
+//!   `system_answer`: what an answer of the system comes to.
 //! - `ahead`: what a source over a reader has read ahead.
 //! - `in_port`, `out_port`: a port behind a box, or one in memory.
 //! - `in_place`, `out_place`: a place with its port, which reads and writes whole slices; `sealed`: the port of a dead
@@ -46,6 +47,7 @@ mod sink;
 mod source;
 mod spoiled_source;
 mod system;
+mod system_answer;
 mod writer_sink;
 
 pub use ahead::ReadBlock;

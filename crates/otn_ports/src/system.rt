@@ -1,20 +1,12 @@
 // Calls of the system, each counted where it fails.
-ghost use Rattle.std.specs.Prelude.{◌≡◌, ◌≢◌, ◌<◌, ◌≤◌, false, true, Some, IfOk, OnErr, length};
+ghost use Rattle.std.specs.Prelude.{◌≡◌, ◌≢◌, ◌<◌, ◌≤◌, Some, IfOk, OnErr, length};
 ghost use Rattle.std.specs.Io.KnownBytes.{ReadConsumes, WriteAppends};
 ghost use Rattle.otn_ports.specs.Adapters.{IsFault};
 ghost use Rattle.otn_ports.specs.Bytes.{faults_after, HasFailed};
 
 use crate::Failed;
+use crate::system_answer::{Outcome, read_outcome, write_outcome};
 use std::io::{ErrorKind, Read, Write};
-
-/// Whether a call that the system refused so is made again: one that a signal interrupted is. Any other refusal is a
-/// fault, also that of a call that would have to wait, so that nothing is asked for ever.
-pub(crate) fn is_made_again(kind: ErrorKind) -> bool
-    ensures again { kind ≡ ErrorKind.Interrupted → result ≡ true }
-    ensures fault { kind ≢ ErrorKind.Interrupted → result ≡ false }
-{
-    kind == ErrorKind::Interrupted
-}
 
 /// A refusal that is a fault: its kind is kept. That a signal interrupted the call is none.
 pub(crate) fn refuse(fault: &mut Option<ErrorKind>, kind: ErrorKind) -> Failed
@@ -38,14 +30,10 @@ pub(crate) fn read_some<R: Read>(
     ensures bytes { ReadConsumes (R.remaining from.old) (R.remaining from.new) result into.new }
 {
     for _ in 0..u64::MAX {
-        match from.read(into) {
-            Ok(n) => return Ok(n),
-            Err(e) => {
-                let kind = e.kind();
-                if !is_made_again(kind) {
-                    return Err(refuse(fault, kind));
-                }
-            }
+        match read_outcome(from.read(into)) {
+            Outcome::Moved(n) => return Ok(n),
+            Outcome::Again => {}
+            Outcome::Refused(kind) => return Err(refuse(fault, kind)),
         }
     }
     Err(refuse(fault, ErrorKind::TimedOut))
@@ -65,15 +53,10 @@ pub(crate) fn write_some<W: Write>(
     ensures bytes { WriteAppends (W.contents to.old) (W.contents to.new) result bytes.now }
 {
     for _ in 0..u64::MAX {
-        match to.write(bytes) {
-            Ok(0) => return Err(refuse(fault, ErrorKind::WriteZero)),
-            Ok(n) => return Ok(n),
-            Err(e) => {
-                let kind = e.kind();
-                if !is_made_again(kind) {
-                    return Err(refuse(fault, kind));
-                }
-            }
+        match write_outcome(to.write(bytes)) {
+            Outcome::Moved(n) => return Ok(n),
+            Outcome::Again => {}
+            Outcome::Refused(kind) => return Err(refuse(fault, kind)),
         }
     }
     Err(refuse(fault, ErrorKind::TimedOut))
