@@ -4,4 +4,5 @@ pub mod Codes
 pub mod Device
 pub mod Ends
 pub mod Gains
+pub mod StatusText
 pub mod Steps

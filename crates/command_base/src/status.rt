@@ -54,6 +54,11 @@ impl Status {
 
 /// The answer in words, as programs complain of it.
 impl fmt::Display for Status {
+    ghost use Rattle.std.specs.Prelude.{Some};
+    ghost use Rattle.command_base.specs.StatusText.{status_text};
+
+    ghost output = { λ status. Some (status_text status) };
+
     fn fmt<W: fmt::Write>(&self, f: &mut fmt::Formatter<W>) -> fmt::Result {
         match *self {
             Status::Done => write!(f, "done"),
