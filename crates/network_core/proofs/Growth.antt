@@ -37,7 +37,8 @@ pub stays : (node : NodeView) (bays : BaysView) → LeadsLater node bays node ba
 stays node bays = λ plan first read h. record { more = read; stands = h; earlier = λ inputs may. may }
 
 pub leads_twice : (old node new : NodeView) (first was is : BaysView) → LeadsLater old first node was → LeadsLater node was new is → LeadsLater old first new is
-leads_twice old node new first was is one two = λ plan opened read h. later_twice plan opened read old node new was is (one plan opened read h) (λ k. two plan opened _ k)
+leads_twice old node new first was is one two = λ plan opened read h. later_twice plan opened read old node new was is (one plan opened read h)
+    (λ k. two plan opened _ k)
 
 -- ---- lines in
 

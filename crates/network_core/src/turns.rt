@@ -11,7 +11,8 @@ use otn_ports::{Rack, Sink, Source};
 
 /// All pieces of the turn that write lines. No line in is asked for anything.
 pub fn write_lines<P: Source, K: Sink>(node: &mut Node, bays: &mut Rack<P, K>)
-    ensures stands { LeadsLater node.old (bays_view P.Source K.Sink bays.old) node.new (bays_view P.Source K.Sink bays.new) }
+    ensures stands { LeadsLater node.old (bays_view P.Source K.Sink bays.old)
+        node.new (bays_view P.Source K.Sink bays.new) }
     ensures turns { node.new.turns ≡ node.old.turns }
     ensures past { node.new.past ≡ node.old.past }
     ensures grows { OutputsGrow (bays_view P.Source K.Sink bays.old) (bays_view P.Source K.Sink bays.new) }
@@ -24,7 +25,8 @@ pub fn write_lines<P: Source, K: Sink>(node: &mut Node, bays: &mut Rack<P, K>)
 
 // All pieces of the turn of one line out.
 fn write_line<P: Source, K: Sink>(node: &mut Node, b: u8, bays: &mut Rack<P, K>)
-    ensures stands { LeadsLater node.old (bays_view P.Source K.Sink bays.old) node.new (bays_view P.Source K.Sink bays.new) }
+    ensures stands { LeadsLater node.old (bays_view P.Source K.Sink bays.old)
+        node.new (bays_view P.Source K.Sink bays.new) }
     ensures turns { node.new.turns ≡ node.old.turns }
     ensures past { node.new.past ≡ node.old.past }
     ensures grows { OutputsGrow (bays_view P.Source K.Sink bays.old) (bays_view P.Source K.Sink bays.new) }
@@ -38,7 +40,8 @@ fn write_line<P: Source, K: Sink>(node: &mut Node, b: u8, bays: &mut Rack<P, K>)
 /// All other pieces of the turn, and its end.
 pub fn end_turn<P: Source, K: Sink>(node: &mut Node, bays: &mut Rack<P, K>)
     requires going { node.old.past < node.old.turns }
-    ensures stands { LeadsLater node.old (bays_view P.Source K.Sink bays.old) node.new (bays_view P.Source K.Sink bays.new) }
+    ensures stands { LeadsLater node.old (bays_view P.Source K.Sink bays.old)
+        node.new (bays_view P.Source K.Sink bays.new) }
     ensures turns { node.new.turns ≡ node.old.turns }
     ensures past { node.new.past ≡ node.old.past + 1 }
     ensures grows { OutputsGrow (bays_view P.Source K.Sink bays.old) (bays_view P.Source K.Sink bays.new) }

@@ -2,4 +2,5 @@ pub mod ReadBack
 pub mod Handing
 pub mod Isolation
 pub mod Delivery
-pub mod Networks
+pub mod Routes
+pub mod EndToEnd

@@ -32,7 +32,8 @@ through_front false xs ys = (ys, refl)
 through_front true xs ys = masked_front 0 xs ys
 
 -- what came of a file is read as a part of the frames that were made
-pub read_front : (scrambled : Bool) (brought cut written rest all : List ℕ) → brought ++ cut ≡ written → written ++ rest ≡ through_mask scrambled all → (behind : List ℕ) × (through_mask scrambled brought ++ behind ≡ all)
+pub read_front : (scrambled : Bool) (brought cut written rest all : List ℕ) → brought ++ cut ≡ written → written ++ rest ≡ through_mask scrambled all
+    → (behind : List ℕ) × (through_mask scrambled brought ++ behind ≡ all)
 read_front scrambled brought cut written rest all came went =
     let r = through_front scrambled brought (cut ++ rest) in
     let whole : brought ++ (cut ++ rest) ≡ through_mask scrambled all = sym (append_assoc brought cut rest) ∙ ap (λ l. l ++ rest) came ∙ went in
@@ -45,7 +46,8 @@ two_slots Otu2 = omega arith
 two_slots Otu3 = omega arith
 
 -- the MFAS bytes of a part from the front go on as those of the file
-front_goes_on : (plan : Plan) (inputs : Inputs) (b count : ℕ) (frames : List (List ℕ)) (line behind : List ℕ) → IsLineFile plan inputs b count frames → line ++ behind ≡ concat frames → GoOn (mfas_of line)
+front_goes_on : (plan : Plan) (inputs : Inputs) (b count : ℕ) (frames : List (List ℕ)) (line behind : List ℕ) → IsLineFile plan inputs b count frames
+    → line ++ behind ≡ concat frames → GoOn (mfas_of line)
 front_goes_on plan inputs b count frames line behind file e = record {
   each = λ i l.
       let many = length_mfas line in
@@ -58,7 +60,8 @@ front_goes_on plan inputs b count frames line behind file e = record {
       ∙ sym (index_mfas (concat frames) i there) ∙ (goes_on plan inputs b count frames file).each i known;
 }
 
-pub front_multiframe : (plan : Plan) (inputs : Inputs) (b count past : ℕ) (kind : LineKind) (frames : List (List ℕ)) (line behind : List ℕ) → IsLineFile plan inputs b count frames → line ++ behind ≡ concat frames
+pub front_multiframe : (plan : Plan) (inputs : Inputs) (b count past : ℕ) (kind : LineKind) (frames : List (List ℕ)) (line behind : List ℕ)
+    → IsLineFile plan inputs b count frames → line ++ behind ≡ concat frames
     → 16320 * (slots_of kind * (past + 1)) ≤ length line → multiframe (slots_of kind) (mfas_of line) past ≡ Some (lock_at (slots_of kind) past)
 front_multiframe plan inputs b count past kind frames line behind file e enough =
     let next = next_turn (slots_of kind) past in

@@ -7,22 +7,23 @@ use Rattle.plan_file.specs.declared.connection.FromEnd.TheVariants as from_end
 use Rattle.plan_file.specs.declared.connection.ToEnd.TheVariants as to_end
 use Rattle.connection_laws.specs.Delivery.{AreOffered, whole_packets}
 use Rattle.run_laws.specs.SeenRuns.{ClientGave, ClientGot, ClientLived}
-use Rattle.network_laws.specs.Ways.{Halt, IsWay, IsWholeWay, last_halt}
+use Rattle.network_laws.specs.Ways.{Hop, IsWay, IsWholeWay, last_hop}
 
 -- all entries of a way begin with the same turn
-abbrev pub IsInStep : Halt → List Halt → Type 0
-IsInStep halt [] = Unit {0}
-IsInStep halt (next ∷ halts) = (next.x.start ≡ halt.x.start) × IsInStep next halts
+abbrev pub IsInStep : Hop → List Hop → Type 0
+IsInStep hop [] = Unit {0}
+IsInStep hop (next ∷ hops) = (next.x.start ≡ hop.x.start) × IsInStep next hops
 
--- Of a way from a client through some nodes to a client, whose fibres are whole, and whose entries begin with the same
--- turn: to the client at its end went the text of exactly those packets whose GFP frames lie whole in the client frames
--- that were whole in what the first entry took by three turns before the last entry's stop for each node behind the
--- first.
+-- Of a way of two or more nodes from a client to a client, whose fibres are whole, and whose entries begin with the
+-- same turn: the client at its end got the text of exactly those packets whose GFP frames lie whole in the client
+-- frames that are whole in what the first entry took in its first turns, so many: those up to the last entry's stop,
+-- but for three turns for each node behind the first. Three nodes whose entries last from turn 1 to turn 16 deliver
+-- what the first one took in 16 - 1 - 6 = 9 turns.
 abbrev pub WaysDeliver : Type 0
-WaysDeliver = (halt : Halt) (halts : List Halt) (m n : ℕ) (input : ClientInput) (written : List ℕ)
-    (way : IsWay halt halts) → IsWholeWay halt halts way → IsInStep halt halts → 1 ≤ length halts
-    → halt.x.from ≡ from_end.Client m → (last_halt halt halts).x.to ≡ to_end.Client n
-    → ClientGave halt.run m input → ClientGot (last_halt halt halts).run n written
-    → ClientLived (last_halt halt halts).run n → AreOffered input.packets
-    → written ≡ hex_text (whole_packets input.packets halt.x.fcs
-    (emitted_before halt.x.pace ((last_halt halt halts).x.stop - halt.x.start - 3 * length halts)))
+WaysDeliver = (hop : Hop) (hops : List Hop) (m n : ℕ) (input : ClientInput) (written : List ℕ) (way : IsWay hop hops)
+    → IsWholeWay hop hops way → IsInStep hop hops → 1 ≤ length hops
+    → hop.x.from ≡ from_end.Client m → (last_hop hop hops).x.to ≡ to_end.Client n
+    → ClientGave hop.run m input → ClientGot (last_hop hop hops).run n written
+    → ClientLived (last_hop hop hops).run n → AreOffered input.packets
+    → written ≡ hex_text (whole_packets input.packets hop.x.fcs
+    (emitted_before hop.x.pace ((last_hop hop hops).x.stop - hop.x.start - 3 * length hops)))

@@ -14,9 +14,10 @@ use Rattle.run_laws.specs.SeenRuns.{Run, IsRun, LineGot, LineLived}
 
 -- ---- fibres
 
--- A fibre leads from line b out of one run to line c in of another. Both ends are of one kind and mask; and what the
--- input had to give is what went to the output, or a part of that from the front, where the fibre was cut or a port of
--- it died. Both ports tell their bytes. How these came from one to the other, and when, is free.
+-- A fibre leads from line output b of one run to line input c of another. Its ends are of one kind, and both scrambled
+-- or neither. What the input had to give is what went to the output, or a part of that from the front, where the fibre
+-- was cut or the input's place died. Both ports tell their bytes. How these came from one to the other, and when, is
+-- free.
 pub record Fibre (here there : Run) (b c : ℕ) : Type 0 where
   pub form : form_in there.plan c ≡ form_out here.plan b
   pub written : List ℕ
@@ -26,7 +27,7 @@ pub record Fibre (here there : Run) (b c : ℕ) : Type 0 where
   pub cut : List ℕ
   pub parts : brought ++ cut ≡ written
 
--- The fibre is whole: its output's place has lived, and all that went there came.
+-- It is whole: its output's place has lived, and all that went there came.
 pub record IsWhole (here : Run) (b : ℕ) (cut : List ℕ) : Type 0 where
   pub lived : LineLived here b
   pub all : cut ≡ []
@@ -37,14 +38,14 @@ HaveTurns size turns brought = LINE_FRAME_BYTES * (size * turns) ≤ length brou
 
 -- ---- the way
 
--- a node on the way: its run, and the entry of its plan by which the way goes
-pub record Halt : Type 0 where
+-- a node on the way: its run, and the entry of its plan that the way goes by
+pub record Hop : Type 0 where
   pub run : Run
   pub x : Connection
 
-pub record IsHalt (halt : Halt) : Type 0 where
-  pub is : IsRun halt.run
-  pub has : Contains halt.run.plan.connections halt.x
+pub record IsHop (hop : Hop) : Type 0 where
+  pub is : IsRun hop.run
+  pub has : Contains hop.run.plan.connections hop.x
 
 -- An entry goes on in another: it puts its tributary on line b, and the other takes it off line c, by the same
 -- tributary port, on the same slots, and in no turn in which it is not put.
@@ -54,8 +55,8 @@ pub record GoesOn (x y : Connection) (b c port : ℕ) (slots : LineSlots) : Type
   pub start : x.start ≤ y.start
   pub stop : y.stop ≤ x.stop
 
--- so the way leads from one node to the next
-pub record LeadsOn (here next : Halt) : Type 0 where
+-- so the way leads from one node to the next, over a fibre
+pub record LeadsOn (here next : Hop) : Type 0 where
   pub b : ℕ
   pub c : ℕ
   pub port : ℕ
@@ -64,28 +65,28 @@ pub record LeadsOn (here next : Halt) : Type 0 where
   pub fibre : Fibre here.run next.run b c
 
 -- a way from its first node by those that follow
-abbrev pub IsWay : Halt → List Halt → Type 0
-IsWay halt [] = IsHalt halt
-IsWay halt (next ∷ halts) = IsHalt halt × LeadsOn halt next × IsWay next halts
+abbrev pub IsWay : Hop → List Hop → Type 0
+IsWay hop [] = IsHop hop
+IsWay hop (next ∷ hops) = IsHop hop × LeadsOn hop next × IsWay next hops
 
--- its last node, and the entries by which it goes
-abbrev pub last_halt : Halt → List Halt → Halt
-last_halt halt [] = halt
-last_halt halt (next ∷ halts) = last_halt next halts
+-- its last node, and the entries that it goes by
+abbrev pub last_hop : Hop → List Hop → Hop
+last_hop hop [] = hop
+last_hop hop (next ∷ hops) = last_hop next hops
 
-abbrev pub entries : Halt → List Halt → List Connection
-entries halt halts = map (λ h. h.x) (halt ∷ halts)
+abbrev pub entries : Hop → List Hop → List Connection
+entries hop hops = map (λ h. h.x) (hop ∷ hops)
 
 -- ---- what its fibres brought
 
 -- each of its fibres is whole
-abbrev pub IsWholeWay : (halt : Halt) (halts : List Halt) → IsWay halt halts → Type 0
-IsWholeWay halt [] way = Unit {0}
-IsWholeWay halt (next ∷ halts) way = IsWhole halt.run way.1.b way.1.fibre.cut × IsWholeWay next halts way.2
+abbrev pub IsWholeWay : (hop : Hop) (hops : List Hop) → IsWay hop hops → Type 0
+IsWholeWay hop [] way = Unit {0}
+IsWholeWay hop (next ∷ hops) way = IsWhole hop.run way.1.b way.1.fibre.cut × IsWholeWay next hops way.2
 
--- Each of its fibres brought the frames of the first turns, so many, as far as the entry lasts that takes them.
-abbrev pub BringsTurns : (turns : ℕ) (halt : Halt) (halts : List Halt) → IsWay halt halts → Type 0
-BringsTurns turns halt [] way = Unit {0}
-BringsTurns turns halt (next ∷ halts) way =
+-- Each of its fibres brought all frames of the first turns, so many, as far as the entry lasts that takes them.
+abbrev pub BringsTurns : (turns : ℕ) (hop : Hop) (hops : List Hop) → IsWay hop hops → Type 0
+BringsTurns turns hop [] way = Unit {0}
+BringsTurns turns hop (next ∷ hops) way =
     HaveTurns (slots_of way.1.slots.kind) (min turns next.x.stop) way.1.fibre.brought
-    × BringsTurns turns next halts way.2
+    × BringsTurns turns next hops way.2

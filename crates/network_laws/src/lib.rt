@@ -1,7 +1,7 @@
 //! Laws of networks: of a customer's way through any number of nodes, each the contract of a function. They name no
-//! node and no program: whatever carried the plans, and however the bytes came from one node to the next, they hold.
+//! program: whatever carried the plans, and however the bytes came from one node to the next, they hold.
 //!
-//! - `laws`: of isolation along a way, and of what it delivers.
+//! - `laws`: of isolation along a way, of what it delivers, and of both in whole networks.
 #![tactic(auto)]
 
 mod laws;

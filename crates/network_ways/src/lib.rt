@@ -1,4 +1,5 @@
-//! How the ways of a network are found.
+//! How the ways of a network are found: by definitions that can be computed, and a law that they find the ways that
+//! there are, and no others.
 #![tactic(auto)]
 
 mod laws;

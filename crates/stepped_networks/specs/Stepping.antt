@@ -1,5 +1,5 @@
--- Believed: a network whose nodes are stepped in turn, in any order, while its fibres are filled by hand: what an output
--- got goes to the input at the other end whenever one likes. So a fibre may lead round to where it began.
+-- Believed: a network whose nodes are stepped in turn, in any order, while its fibres are filled by hand: what an
+-- output got goes to the input at the other end whenever one likes. So a fibre may lead round to where it began.
 use Rattle.std.specs.Prelude.{◌≡◌, ◌≢◌, ◌<◌, ℕ, false, List, ◌++◌, Some, length, slice_get}
 use Rattle.std.specs.List.{Contains}
 use Rattle.otn_ports.specs.Bytes.{after}
@@ -13,6 +13,8 @@ use Rattle.node_moments.specs.Stands.{InputBytes, StandsAt, Later}
 use Rattle.refill_laws.specs.Refilling.{Refilled}
 use Rattle.run_laws.specs.SeenRuns.{Run}
 use Rattle.network_laws.specs.Networks.{FibreEnds, Network, IsNetwork, NetworkRun}
+use Rattle.network_laws.specs.Routes.{Leg, IsLeg, IsJoined, fibre_of}
+use Rattle.network_laws.specs.Ways.{Fibre}
 
 -- ---- how a network stands
 
@@ -101,10 +103,16 @@ pub record HasLivedEnds (f : FibreEnds) (run : ℕ → Run) : Type 0 where
   pub in_was : (line_in_at (run f.there).before f.into).state ≡ Live
   pub in_is : (line_in_at (run f.there).after f.into).state ≡ Live
 
+-- over each fibre by which an entry goes on in another, and whose ends have lived, came what was written to it, or a
+-- part of that from the front
+abbrev pub FibresBrought : Network → (run : ℕ → Run) → Type 0
+FibresBrought network run = (here next : Leg) → IsLeg network here → IsLeg network next
+    → (joined : IsJoined network here next) → HasLivedEnds (fibre_of joined) run
+    → Fibre (run here.node) (run next.node) joined.b joined.c
+
 -- Then this was a run of the network. What was handed over is what the fibres brought.
 abbrev pub EndsAsARun : Type 0
 EndsAsARun = (network : Network) (states : ℕ → NodeState) (run : ℕ → Run) → IsNetwork network
     → NetworkStands network states
     → ((i : ℕ) (plan : Plan) → slice_get network.plans i ≡ Some plan → NodeEnded network states i (run i))
-    → ((f : FibreEnds) → Contains network.fibres f → HasLivedEnds f run)
-    → (it : NetworkRun network) × (it.run ≡ run)
+    → (it : NetworkRun network) × (it.run ≡ run) × FibresBrought network run

@@ -8,7 +8,8 @@ use Rattle.network_core.proofs.turns.end_turn.Goals as goal
 pub loop-node-smaller : goal.loop-node-smaller
 loop-node-smaller g c =
     let e = c.step.ensures in
-    smaller (left_of c.step.new.self) (left_of c.loop-node.node) (left_step c.nth_ready-port.result c.loop-node.node c.step.new.self c.nth_ready-port.ensures.ready e.piece e.turns e.past)
+    smaller (left_of c.step.new.self) (left_of c.loop-node.node)
+    (left_step c.nth_ready-port.result c.loop-node.node c.step.new.self c.nth_ready-port.ensures.ready e.piece e.turns e.past)
 
 pub loop-node-preserved : goal.loop-node-preserved
 loop-node-preserved g c =
@@ -30,7 +31,8 @@ fence-requires-clause-none g c =
 
 pub returns-clause-stands : goal.returns-clause-stands
 returns-clause-stands g c =
-    leads_twice c.args.node.now c.loop-node.node c.fence.new.self (bays_view g.P.Source g.K.Sink c.args.bays.now) (bays_view g.P.Source g.K.Sink c.loop-node.bays) (bays_view g.P.Source g.K.Sink c.fence.new.bays)
+    leads_twice c.args.node.now c.loop-node.node c.fence.new.self (bays_view g.P.Source g.K.Sink c.args.bays.now)
+    (bays_view g.P.Source g.K.Sink c.loop-node.bays) (bays_view g.P.Source g.K.Sink c.fence.new.bays)
     c.loop-node.invariant.stands c.fence.ensures.stands
 
 pub returns-clause-grows : goal.returns-clause-grows

@@ -10,7 +10,8 @@ pub loop-node-smaller : goal.loop-node-smaller
 loop-node-smaller g c =
     let e = c.step.ensures in
     let ready : is_ready c.loop-node.node (port.LineOut c.args.b) ≡ true = search rules in
-    smaller (left_of c.step.new.self) (left_of c.loop-node.node) (left_step (port.LineOut c.args.b) c.loop-node.node c.step.new.self ready e.piece e.turns e.past)
+    smaller (left_of c.step.new.self) (left_of c.loop-node.node)
+    (left_step (port.LineOut c.args.b) c.loop-node.node c.step.new.self ready e.piece e.turns e.past)
 
 pub loop-node-preserved : goal.loop-node-preserved
 loop-node-preserved g c =

@@ -1,4 +1,5 @@
-use Rattle.network_laws.proofs.Networks.{way_of, one_way_back, networks_isolated, networks_deliver}
+use Rattle.network_laws.proofs.EndToEnd.{networks_isolated, networks_deliver}
+use Rattle.network_laws.proofs.Routes.{way_of, one_way_back}
 use Rattle.network_laws.proofs.laws.networks_isolate_and_deliver.Goals as goal
 
 pub returns-clause-ways : goal.returns-clause-ways
