@@ -194,7 +194,7 @@ reads_alike n one other x first second share b port past slots to written brough
 
 -- ---- whole lines
 
-long_as : (many bytes : ℕ) → bytes / 16320 ≡ many → 16320 * many ≤ bytes
+pub long_as : (many bytes : ℕ) → bytes / 16320 ≡ many → 16320 * many ≤ bytes
 long_as many bytes e = omega arith
 
 -- where its place has lived, all frames of the turns of the plan went to a line

@@ -1,0 +1,3 @@
+pub mod Unharmed
+pub mod Isolated
+pub mod Delivered
