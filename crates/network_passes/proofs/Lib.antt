@@ -1,0 +1,2 @@
+pub mod SameFile
+pub mod PassedOn
