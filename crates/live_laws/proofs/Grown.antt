@@ -10,13 +10,12 @@ use Rattle.otn_ports.specs.Places.{place_at, Input, Output}
 use Rattle.otn_ports.specs.Views.{InView, OutView, BaysView, line_in_at, line_out_at, client_in_at, client_out_at, no_input, no_output}
 use Rattle.line_side.specs.LineForm.{LineForm}
 use Rattle.line_side.specs.LineStands.{LineView, LineStands}
-use Rattle.line_side.specs.declared.ending.Ending.TheVariants.{Open}
 use Rattle.plan_file.specs.declared.plan.Plan.{Plan}
 use Rattle.device_model.specs.Entries.{form_in}
 use Rattle.device_model.specs.Moments.{uses}
 use Rattle.node_moments.specs.NodeView.{NodeView, HasLineIn}
 use Rattle.node_moments.specs.Stands.{InputBytes, StandsAt, PortStands, LineInAt}
-use Rattle.live_laws.specs.HandedIn.{left_with, grown, LineGrew, IsLineOpen, LinesGrow}
+use Rattle.live_laws.specs.HandedIn.{left_with, grown, LineGrew, LinesGrow}
 
 gives_on : (further bytes : List ℕ) (left : Option (List ℕ)) → left_with further (before bytes left) ≡ before bytes (left_with further left)
 gives_on further bytes None = refl
@@ -34,26 +33,26 @@ gave_on further first now read g = record {
   idle = λ ne. (ap (grown further) (g.idle ne).0, (g.idle ne).1);
 }
 
-line_on : (further : List ℕ) (form : LineForm) (first now : InView) (read : List ℕ) (t : ℕ) (line : LineView) → line.reader.ending ≡ Open
-    → LineStands form first now read t line → LineStands form (grown further first) (grown further now) read t line
+line_on : (further : List ℕ) (form : LineForm) (first now : InView) (read : List ℕ) (t : ℕ) (line : LineView)
+    → now.ended ≡ false → LineStands form first now read t line → LineStands form (grown further first) (grown further now) read t line
 line_on further form first now read t line unended s = record {
   is_form = s.is_form;
   gave = gave_on further first now read s.gave;
   ending = record { died = s.ending.died; seen = s.ending.seen };
-  over = λ ne. absurd (ne unended);
+  over = λ closed live. (let has = s.over closed live in let answered = has.answered in absurd (cc));
   unended = s.unended;
   is_line = s.is_line;
 }
 
 module _ (plan : Plan) (first now first' now' : BaysView) (read : InputBytes) (node : NodeView) (a : ℕ) (further : List ℕ)
-    (unended : IsLineOpen node a) (f : LineGrew a further first first') (n : LineGrew a further now now') (s : StandsAt plan first read node now) where
+    (unended : (line_in_at now a).ended ≡ false) (f : LineGrew a further first first') (n : LineGrew a further now now') (s : StandsAt plan first read node now) where
   -- the line itself
   own_line : LineInAt plan first' read node now' a
   own_line line has used =
       let h = s.ports (port.LineIn a) line has used in (
         subst (λ v. LineStands (form_in plan a) v (line_in_at now' a) (read.line a) node.past line) (sym f.line)
             (subst (λ w. LineStands (form_in plan a) (grown further (line_in_at first a)) w (read.line a) node.past line) (sym n.line)
-            (line_on further (form_in plan a) (line_in_at first a) (line_in_at now a) (read.line a) node.past line (unended line has) h.0)),
+            (line_on further (form_in plan a) (line_in_at first a) (line_in_at now a) (read.line a) node.past line unended h.0)),
         h.1,
       )
 

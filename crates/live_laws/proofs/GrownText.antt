@@ -4,7 +4,8 @@ use Rattle.std.proofs.lemmas.Bool.Decides.{eqb_tells}
 use Rattle.otn_base.specs.declared.kind.PortName.{PortName}
 use Rattle.otn_base.specs.declared.kind.PortName.TheVariants as port
 use Rattle.otn_ports.specs.Places.{place_at, Input, Output}
-use Rattle.otn_ports.specs.Views.{InView, BaysView, line_in_at, client_in_at}
+use Rattle.otn_ports.specs.Retiring.{retired_in_as}
+use Rattle.otn_ports.specs.Views.{State, Empty, Live, Dead, InView, BaysView, line_in_at, client_in_at}
 use Rattle.packet_text.specs.LinesStand.{LinesView, LinesStand, lines_view}
 use Rattle.odu_client.specs.Framing.{TextStands as StreamText, ClientStands as FramerStands, FramerState}
 use Rattle.plan_file.specs.declared.connection.Connection.{Connection}
@@ -18,14 +19,15 @@ use Rattle.device_model.specs.RetiredPlaces.{after_retire}
 use Rattle.node_links.specs.declared.link.Link.{Link}
 use Rattle.node_moments.specs.NodeView.{NodeView, HasLink, done_at}
 use Rattle.node_moments.specs.Stands.{InputBytes, StandsAt, PortStands, ClientStands, ClientAt, GivesText}
-use Rattle.live_laws.specs.HandedIn.{grown, ClientGrew, IsTextOpen, IsClientOpen, PacketsGrow}
+use Rattle.live_laws.specs.HandedIn.{grown, ClientGrew, PacketsGrow}
 use Rattle.live_laws.proofs.Grown.{gave_on}
 
-lines_on : (further : List ℕ) (first now : InView) (read : List ℕ) (packets : List (List ℕ)) (view : LinesView) → view.ended ≡ false
-    → LinesStand first now read packets view → LinesStand (grown further first) (grown further now) read packets view
+lines_on : (further : List ℕ) (first now : InView) (read : List ℕ) (packets : List (List ℕ)) (view : LinesView)
+    → now.ended ≡ false → LinesStand first now read packets view
+    → LinesStand (grown further first) (grown further now) read packets view
 lines_on further first now read packets view unended s = record {
   gave = gave_on further first now read s.gave;
-  over = λ e. absurd (cc);
+  over = λ seen live. (let has = s.over seen live in let answered = has.answered in absurd (cc));
   unended = s.unended;
   alive = s.alive;
   ended = s.ended;
@@ -37,7 +39,7 @@ lines_on further first now read packets view unended s = record {
   near = s.near;
 }
 
-text_on : (further : List ℕ) (x : Connection) (first now : InView) (read : List ℕ) (n : ℕ) (part : TakingPart) → IsTextOpen part
+text_on : (further : List ℕ) (x : Connection) (first now : InView) (read : List ℕ) (n : ℕ) (part : TakingPart) → now.ended ≡ false
     → ClientInStands x first now read n part → ClientInStands x (grown further first) (grown further now) read n part
 text_on further x first now read n (taking.Client client) unended s = record {
   emitted = s.emitted;
@@ -45,7 +47,10 @@ text_on further x first now read n (taking.Client client) unended s = record {
   stands = record {
     packets = s.stands.packets;
     payload = s.stands.payload;
-    text = record { stands = lines_on further first now read s.stands.packets (lines_view client.lines) unended s.stands.text.stands; answer = s.stands.text.answer };
+    text = record {
+      stands = lines_on further first now read s.stands.packets (lines_view client.lines) unended s.stands.text.stands;
+      answer = s.stands.text.answer;
+    };
     framed = s.stands.framed;
   };
   sapi = s.sapi;
@@ -54,29 +59,36 @@ text_on further x first now read n (taking.Client client) unended s = record {
 text_on further x first now read n (taking.Line sink) unended s = s
 text_on further x first now read n (taking.Signal stream) unended s = s
 
--- a place that was not emptied
-kept : (retired : Bool) (was now : InView) → retired ≡ false → now ≡ after_retire retired was → now ≡ was
-kept false was now off e = e
-kept true was now off e = absurd (cc)
+-- a place that has not answered its end was not emptied
+pub record Stayed (further : List ℕ) (retired : Bool) (was now : InView) : Type 0 where
+  pub unended : was.ended ≡ false
+  pub place : grown further now ≡ after_retire retired (grown further was)
 
-stayed : (retired : Bool) (was now : InView) → retired ≡ false → now ≡ was → now ≡ after_retire retired was
-stayed false was now off e = e
-stayed true was now off e = absurd (cc)
+stayed_as : (further : List ℕ) (state : State) (was now : InView) → state ≡ was.state → now.ended ≡ false → now ≡ retired_in_as state was
+    → (was.ended ≡ false) × (grown further now ≡ retired_in_as state (grown further was))
+stayed_as further Live was now is unended e = absurd (cc)
+stayed_as further Empty was now is unended e = (ap (λ (v : InView). v.ended) (sym e) ∙ unended, ap (grown further) e)
+stayed_as further Dead was now is unended e = (ap (λ (v : InView). v.ended) (sym e) ∙ unended, ap (grown further) e)
+
+pub stayed : (further : List ℕ) (retired : Bool) (was now : InView) → now.ended ≡ false → now ≡ after_retire retired was → Stayed further retired was now
+stayed further false was now unended e = record { unended = ap (λ (v : InView). v.ended) (sym e) ∙ unended; place = ap (grown further) e }
+stayed further true was now unended e =
+    let s = stayed_as further was.state was now refl unended e in
+    record { unended = s.0; place = s.1 }
 
 module _ (plan : Plan) (first now first' now' : BaysView) (read : InputBytes) (node : NodeView) (n : ℕ) (further : List ℕ)
-    (unended : IsClientOpen plan node n) (f : ClientGrew n further first first') (g : ClientGrew n further now now') (s : StandsAt plan first read node now) where
+    (unended : (client_in_at now n).ended ≡ false) (f : ClientGrew n further first first') (g : ClientGrew n further now now') (s : StandsAt plan first read node now) where
   own_client : PortStands plan first' read node now' (port.ClientIn n)
   own_client = record {
     started = λ i x link e has t le.
         let c = (s.ports (port.ClientIn n)).started i x link e has t le in
-        let o = unended i x link e has t le in
-        let same : client_in_at now n ≡ c.was = kept (is_retired x node.past) c.was (client_in_at now n) o.1 c.place in
         let k : ℕ = turns_done x node.past (done_at node (port.ClientIn n)) in
+        let same = stayed further (is_retired x node.past) c.was (client_in_at now n) unended c.place in
         record {
           was = grown further c.was;
           stands = subst (λ v. ClientInStands x v (grown further c.was) (read.client n) k link.pipe.taking) (sym f.client)
-              (text_on further x (client_in_at first n) c.was (read.client n) k link.pipe.taking o.0 c.stands);
-          place = stayed (is_retired x node.past) (grown further c.was) (client_in_at now' n) o.1 (g.client ∙ ap (grown further) same);
+              (text_on further x (client_in_at first n) c.was (read.client n) k link.pipe.taking same.unended c.stands);
+          place = g.client ∙ same.place;
         };
     waits = λ i x e t late.
         let w = (s.ports (port.ClientIn n)).waits i x e t late in

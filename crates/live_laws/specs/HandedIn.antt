@@ -1,17 +1,8 @@
 -- API: bytes that are handed in while a node goes.
-use Rattle.std.specs.Prelude.{◌≡◌, ◌≢◌, ◌≤◌, ◌+◌, ⊤, ℕ, true, false, List, ◌++◌, Option, Some, None, slice_get}
-use Rattle.otn_base.specs.declared.kind.PortName.TheVariants as port
+use Rattle.std.specs.Prelude.{◌≡◌, ◌≢◌, ℕ, false, List, ◌++◌, Option, Some, None}
 use Rattle.otn_ports.specs.Views.{InView, BaysView, line_in_at, client_in_at}
-use Rattle.line_side.specs.LineStands.{LineView}
-use Rattle.line_side.specs.declared.ending.Ending.TheVariants.{Open}
-use Rattle.packet_text.specs.LinesStand.{lines_view}
-use Rattle.plan_file.specs.declared.connection.Connection.{Connection}
 use Rattle.plan_file.specs.declared.plan.Plan.{Plan}
-use Rattle.cross_matrix.specs.declared.taking.TakingPart.{TakingPart}
-use Rattle.cross_matrix.specs.declared.taking.TakingPart.TheVariants as taking
-use Rattle.device_model.specs.Moments.{touches, is_retired}
-use Rattle.node_links.specs.declared.link.Link.{Link}
-use Rattle.node_moments.specs.NodeView.{NodeView, HasLineIn, HasLink}
+use Rattle.node_moments.specs.NodeView.{NodeView}
 use Rattle.node_moments.specs.Stands.{InputBytes, StandsAt}
 
 -- what a place has yet to give, where it tells it, with further bytes behind it
@@ -39,33 +30,17 @@ pub record ClientGrew (n : ℕ) (further : List ℕ) (old new : BaysView) : Type
   pub line_out : new.line_out ≡ old.line_out
   pub client_out : new.client_out ≡ old.client_out
 
--- no read of line a has come to its end
-abbrev pub IsLineOpen : NodeView → (a : ℕ) → Type 0
-IsLineOpen node a = (line : LineView) → HasLineIn node a line → line.reader.ending ≡ Open
-
--- no read of a client's text has come to its end
-abbrev pub IsTextOpen : TakingPart → Type 0
-IsTextOpen (taking.Client client) = (lines_view client.lines).ended ≡ false
-IsTextOpen (taking.Line sink) = ⊤
-IsTextOpen (taking.Signal stream) = ⊤
-
--- the text of client n is open, if its connection has started, and its place was not retired
-abbrev pub IsClientOpen : Plan → NodeView → (n : ℕ) → Type 0
-IsClientOpen plan node n = (i : ℕ) (x : Connection) (link : Link) → slice_get plan.connections i ≡ Some x
-    → HasLink node i link → touches (port.ClientIn n) x ≡ true → x.start ≤ node.past + 1
-    → IsTextOpen link.pipe.taking × (is_retired x node.past ≡ false)
-
--- Where a node stands at a moment of a plan it stands at the same moment where further bytes were handed in at line a:
--- the bays were first so with them, and are so now with them. So bytes that come later change nothing of what was done,
--- and of what was said of it.
+-- Where a node stands at a moment of a plan it stands at the same moment where further bytes were handed in at line a,
+-- whose place has not answered its end: the bays were first so with them, and are so now with them. So bytes that come
+-- later change nothing of what was done, and of what was said of it.
 abbrev pub LinesGrow : Type 0
 LinesGrow = (plan : Plan) (first now first_with now_with : BaysView) (read : InputBytes) (node : NodeView) (a : ℕ)
-    (further : List ℕ) → IsLineOpen node a → LineGrew a further first first_with → LineGrew a further now now_with
-    → StandsAt plan first read node now → StandsAt plan first_with read node now_with
+    (further : List ℕ) → (line_in_at now a).ended ≡ false → LineGrew a further first first_with
+    → LineGrew a further now now_with → StandsAt plan first read node now → StandsAt plan first_with read node now_with
 
--- The same at client n.
+-- The same at client n. A place that was retired has no port, which acts as one that has answered its end.
 abbrev pub PacketsGrow : Type 0
 PacketsGrow = (plan : Plan) (first now first_with now_with : BaysView) (read : InputBytes) (node : NodeView) (n : ℕ)
-    (further : List ℕ) → IsClientOpen plan node n → ClientGrew n further first first_with
-    → ClientGrew n further now now_with
-    → StandsAt plan first read node now → StandsAt plan first_with read node now_with
+    (further : List ℕ) → (client_in_at now n).ended ≡ false → ClientGrew n further first first_with
+    → ClientGrew n further now now_with → StandsAt plan first read node now
+    → StandsAt plan first_with read node now_with

@@ -1,2 +1,3 @@
 pub mod HandedIn
+pub mod Live
 pub mod TurnsOut
