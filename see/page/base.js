@@ -11,7 +11,7 @@ function el(name, attributes = {}, ...children) {
     else if (value === true) node.setAttribute(key, '');
     else if (value !== false && value !== null && value !== undefined) node.setAttribute(key, value);
   }
-  node.append(...children.flat().filter(child => child !== null && child !== undefined));
+  node.append(...children.flat(9).filter(child => child !== null && child !== undefined));
   return node;
 }
 
@@ -57,6 +57,12 @@ function readColours() {
   probe.remove();
 }
 
+// A colour as it is seen on this ground: on a dark one with some white in it.
+function seen(colour) {
+  const dark = /\d+/g.exec(look.card)[0] < 128, part = dark ? .38 : 0;
+  return `#${[1, 3, 5].map(x => parseInt(colour.slice(x, x + 2), 16)).map(v => hex(Math.round(v + (255 - v) * part))).join('')}`;
+}
+
 const THEMES = ['auto', 'light', 'dark'];
 
 // A button goes through the themes; `redraw` is called after each change, and for paper, which is light.
@@ -67,8 +73,8 @@ function themes(button, redraw) {
     readColours();
     redraw();
   };
-  const say = () => { button.textContent = { auto: 'as the system', light: 'light', dark: 'dark' }[theme]; };
-  button.title = 'Colours: as the system has them, light, dark';
+  const say = () => { button.textContent = `colours: ${theme}`; };
+  button.title = 'Light or dark: as the system has it, light, dark';
   button.addEventListener('click', () => {
     theme = THEMES[(THEMES.indexOf(theme) + 1) % 3];
     set(theme);

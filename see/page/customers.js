@@ -83,6 +83,6 @@ function drawRibbon(canvas, t) {
 
 function ribbonFill(g, cell) {
   if (cell.look === 'down') return look['bad-fill'];
-  if (SIGNALS.includes(cell.look)) return stripes(g, about.colours.signal[cell.look], look.card, cell.look === 'AIS');
+  if (SIGNALS.includes(cell.look)) return stripes(g, seen(about.colours.signal[cell.look]), look.card, cell.look === 'AIS');
   return cell.look === 'waiting' ? look.dim : look['good-fill'];
 }

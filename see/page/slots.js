@@ -94,7 +94,7 @@ function drawRun(g, run, y, tall) {
 }
 
 function drawSignal(g, signal, x, y, wide, tall) {
-  const colour = about.colours.signal[signal];
+  const colour = seen(about.colours.signal[signal]);
   g.fillStyle = stripes(g, colour, look.card, signal === 'AIS');
   g.fillRect(x, y, wide, tall);
   if (wide < 32 || tall < 14) return;
@@ -181,7 +181,7 @@ function drawLegend() {
     return span('', tile, words);
   };
   const seen = state.proved ? [key('up', blue, .58)] : [key('packets end', blue), key('up, idle', blue, .58)];
-  const signals = state.proved ? [] : SIGNALS.map(s => key(s, signal[s], 1, s === 'AIS'));
+  const signals = state.proved ? [] : SIGNALS.map(s => key(s, seen(signal[s]), 1, s === 'AIS'));
   const marks = state.proved ? [] : [span('', span('bad', '◆'), ' message damaged')];
   $('legend').replaceChildren(...seen, key('up, Cm 0', blue, .3), key('waiting', blue, .2),
     key('down', look['bad-fill'], 1, true), ...signals, key('free', look.pale), ...marks,
