@@ -134,7 +134,7 @@ class Page:
         begin = time.monotonic()
         while not self.run(script):
             if time.monotonic() - begin > seconds:
-                raise Fault(f'never true: {script}')
+                raise Fault(f'never true: {script} {self.faults[:2]}')
             time.sleep(.02)
         return time.monotonic() - begin
 

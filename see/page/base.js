@@ -1,4 +1,4 @@
-// What both pages share: elements, which take text as text, numbers in words, colours, a tip, tables that keys go through.
+// What both pages share: elements, which take text as text, numbers in words, colours, a tip, tables for keys.
 
 const $ = id => document.getElementById(id);
 
@@ -6,10 +6,14 @@ const $ = id => document.getElementById(id);
 function el(name, attributes = {}, ...children) {
   const node = document.createElement(name);
   for (const [key, value] of Object.entries(attributes)) {
-    if (key === 'on') Object.entries(value).forEach(([event, call]) => node.addEventListener(event, call));
-    else if (key === 'paint') node.style.background = value;
-    else if (value === true) node.setAttribute(key, '');
-    else if (value !== false && value !== null && value !== undefined) node.setAttribute(key, value);
+    if (key === 'on')
+      Object.entries(value).forEach(([event, call]) => node.addEventListener(event, call));
+    else if (key === 'paint')
+      node.style.background = value;
+    else if (value === true)
+      node.setAttribute(key, '');
+    else if (value !== false && value !== null && value !== undefined)
+      node.setAttribute(key, value);
   }
   node.append(...children.flat(9).filter(child => child !== null && child !== undefined));
   return node;
@@ -22,8 +26,8 @@ function svg(name, attributes = {}, ...children) {
   return node;
 }
 
-const span = (kind, ...children) => el('span', { class: kind }, ...children);
-const swatch = colour => el('span', { class: 'swatch', paint: colour });
+const span = (kind, ...children) => el('span', {class: kind}, ...children);
+const swatch = colour => el('span', {class: 'swatch', paint: colour});
 
 // ---- numbers
 
@@ -42,8 +46,10 @@ function clamp(value, least, most) {
 
 // ---- colours
 
-const COLOURS = ['ink', 'dim', 'bg', 'card', 'pale', 'paler', 'grid', 'good', 'bad', 'good-fill', 'bad-fill', 'bad-pale',
-  'warn-fill', 'blue', 'mark'];
+const COLOURS = [
+  'ink', 'dim', 'bg', 'card', 'pale', 'paler', 'grid', 'good', 'bad', 'good-fill', 'bad-fill', 'bad-pale', 'warn-fill',
+  'blue', 'mark'
+];
 const look = {};
 
 // Puts the page's colours into `look`, as a canvas takes them.
@@ -58,9 +64,13 @@ function readColours() {
 }
 
 // A colour as it is seen on this ground: on a dark one with some white in it.
-function seen(colour) {
+function onGround(colour) {
   const dark = /\d+/g.exec(look.card)[0] < 128, part = dark ? .38 : 0;
-  return `#${[1, 3, 5].map(x => parseInt(colour.slice(x, x + 2), 16)).map(v => hex(Math.round(v + (255 - v) * part))).join('')}`;
+  return `#${
+      [1, 3, 5]
+        .map(x => parseInt(colour.slice(x, x + 2), 16))
+        .map(v => hex(Math.round(v + (255 - v) * part)))
+        .join('')}`;
 }
 
 const THEMES = ['auto', 'light', 'dark'];
@@ -73,7 +83,9 @@ function themes(button, redraw) {
     readColours();
     redraw();
   };
-  const say = () => { button.textContent = `colours: ${theme}`; };
+  const say = () => {
+    button.textContent = `colours: ${theme}`;
+  };
   button.title = 'Light or dark: as the system has it, light, dark';
   button.addEventListener('click', () => {
     theme = THEMES[(THEMES.indexOf(theme) + 1) % 3];
@@ -118,8 +130,9 @@ function speak(text) {
 
 // A table: a caption that is read aloud, heads, and rows.
 function fill(table, caption, heads, rows) {
-  const head = heads.map(h => (typeof h === 'string' ? el('th', { scope: 'col' }, h) : h));
-  table.replaceChildren(el('caption', { class: 'hidden' }, caption), el('thead', {}, el('tr', {}, head)), el('tbody', {}, rows));
+  const head = heads.map(h => (typeof h === 'string' ? el('th', {scope: 'col'}, h) : h));
+  table.replaceChildren(
+    el('caption', {class: 'hidden'}, caption), el('thead', {}, el('tr', {}, head)), el('tbody', {}, rows));
 }
 
 // Rows with data-i can be clicked, and gone through by keys: pick(i) is called for each.
@@ -132,7 +145,8 @@ function picking(box, pick) {
     const row = event.target.closest('[data-i]');
     if (!row) return;
     const rows = [...box.querySelectorAll('[data-i]')], here = rows.indexOf(row);
-    const next = { ArrowDown: here + 1, ArrowUp: here - 1, Home: 0, End: rows.length - 1, Enter: here, ' ': here }[event.key];
+    const next =
+      {ArrowDown: here + 1, ArrowUp: here - 1, Home: 0, End: rows.length - 1, Enter: here, ' ': here}[event.key];
     if (next === undefined) return;
     event.preventDefault();
     event.stopPropagation();
@@ -148,11 +162,13 @@ function keepFocus(box, redraw) {
   const was = box.contains(document.activeElement) ? document.activeElement.closest('[data-i]') : null;
   redraw();
   const rows = [...box.querySelectorAll('[data-i]')];
-  rows.forEach(row => { row.tabIndex = -1; });
+  rows.forEach(row => {
+    row.tabIndex = -1;
+  });
   const first = rows.find(row => row.classList.contains('on')) || rows[0];
   if (first) first.tabIndex = 0;
   const now = was && rows.find(row => row.dataset.i === was.dataset.i);
-  if (now) now.focus({ preventScroll: true });
+  if (now) now.focus({preventScroll: true});
 }
 
 // Puts the chosen row of a list that scrolls into sight.
@@ -169,15 +185,20 @@ function intoSight(list, row) {
 
 // Rows of values as CSV. A value that a table program would take as a formula gets a quotation mark in front.
 function csv(rows) {
-  return rows.map(row => row.map(value => {
-    let text = String(value);
-    if (/^[=+\-@\t\r]/.test(text) && !/^-?\d+(\.\d+)?$/.test(text)) text = `'${text}`;
-    return /[",\n\r]/.test(text) ? `"${text.replace(/"/g, '""')}"` : text;
-  }).join(',')).join('\r\n') + '\r\n';
+  return rows
+           .map(row => row
+                         .map(value => {
+                           let text = String(value);
+                           if (/^[=+\-@\t\r]/.test(text) && !/^-?\d+(\.\d+)?$/.test(text)) text = `'${text}`;
+                           return /[",\n\r]/.test(text) ? `"${text.replace(/"/g, '""')}"` : text;
+                         })
+                         .join(','))
+           .join('\r\n') +
+    '\r\n';
 }
 
 function save(name, text) {
-  const link = el('a', { download: name, href: URL.createObjectURL(new Blob([text], { type: 'text/csv' })) });
+  const link = el('a', {download: name, href: URL.createObjectURL(new Blob([text], {type: 'text/csv'}))});
   link.click();
   setTimeout(() => URL.revokeObjectURL(link.href), 10000);
 }

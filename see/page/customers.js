@@ -5,7 +5,8 @@ const sums = new Map();
 // What a customer was in all: from least to greatest, and sums.
 function sumOfCustomer(t) {
   if (sums.has(t.number)) return sums.get(t.number);
-  const { heard } = line, sum = { up: 0, cm: [], cnd: [], packets: 0, packetBytes: 0, bad: 0, groups: 0, full: 0, last: null };
+  const {heard} = line,
+        sum = {up: 0, cm: [], cnd: [], packets: 0, packetBytes: 0, bad: 0, groups: 0, full: 0, last: null};
   const widen = (range, value) => {
     if (!range.length || value < range[0]) range[0] = value;
     if (range.length < 2 || value > range[1]) range[1] = value;
@@ -28,7 +29,9 @@ function sumOfCustomer(t) {
   return sum;
 }
 
-const rangeWords = range => (range.length === 0 ? '–' : range[0] === range[1] ? `${range[0]}` : `${range[0]}–${range[1]}`);
+const rangeWords = range => (range.length === 0 ? '–'
+    : range[0] === range[1]                     ? `${range[0]}`
+                                                : `${range[0]}–${range[1]}`);
 
 // The bits of its groups by the time of a multiframe.
 function rateOf(t, sum) {
@@ -37,13 +40,16 @@ function rateOf(t, sum) {
 }
 
 function makeCustomers() {
-  return [el('div', { id: 'customers' })];
+  return [el('div', {id: 'customers'})];
 }
 
 function drawCustomers() {
-  keepFocus($('customers'), () => $('customers').replaceChildren(
-    ...(line.tributaries.length ? line.tributaries.map(customerCard) : [el('p', { class: 'dim' }, 'No tributary on this line.')])));
-  for (const canvas of $('customers').querySelectorAll('canvas')) drawRibbon(canvas, line.tributaries[canvas.dataset.t]);
+  keepFocus($('customers'),
+    () => $('customers').replaceChildren(...(line.tributaries.length ? line.tributaries.map(customerCard) : [
+      el('p', {class: 'dim'}, 'No tributary on this line.')
+    ])));
+  for (const canvas of $('customers').querySelectorAll('canvas'))
+    drawRibbon(canvas, line.tributaries[canvas.dataset.t]);
 }
 
 function customerCard(t) {
@@ -51,12 +57,23 @@ function customerCard(t) {
   const from = `turns ${t.start} to ${Math.min(t.start + t.turns - 1, line.turns)}`;
   const traffic = state.proved ? '' : ` · ${count(sum.packets, 'packet')}, ${bytesText(sum.packetBytes)}`;
   const bad = !state.proved && sum.bad ? [' · ', span('wrong', `${count(sum.bad, 'GFP frame')} of wrong checks`)] : [];
-  return el('div', { class: `customer${t.number === state.tributary ? ' on' : ''}`, 'data-i': t.number, role: 'button', 'aria-pressed': t.number === state.tributary },
-    el('div', { class: 'bar' }, span('', swatch(t.colour), el('b', {}, nameOf(t))), span('dim', `${nameOf(t) === `port ${t.port}` ? '' : `port ${t.port} · `}${slotsOf(t)} · ${from}`),
-      span('push'), end ? span(end.state === 'up' ? 'good' : 'bad', `${end.state}${!state.proved && end.client ? ` ${end.client}` : ''}`) : null),
-    el('canvas', { 'data-t': t.number, 'aria-hidden': 'true' }),
+  return el('div', {
+    class: `customer${t.number === state.tributary ? ' on' : ''}`,
+    'data-i': t.number,
+    role: 'button',
+    'aria-pressed': t.number === state.tributary
+  },
+    el('div', {class: 'bar'}, span('', swatch(t.colour), el('b', {}, nameOf(t))),
+      span('dim', `${nameOf(t) === `port ${t.port}` ? '' : `port ${t.port} · `}${slotsOf(t)} · ${from}`), span('push'),
+      end ? span(
+              end.state === 'up' ? 'good' : 'bad', `${end.state}${!state.proved && end.client ? ` ${end.client}` : ''}`)
+                                                                                              : null),
+    el('canvas', {'data-t': t.number, 'aria-hidden': 'true'}),
     el('p', {}, span('dim', `turn ${state.turn + 1}: `), h ? heardWords(h) : 'not there'),
-    el('p', {}, span('dim', 'in all: '), `up in ${count(sum.up, 'turn')} · Cm ${rangeWords(sum.cm)} · CnD ${rangeWords(sum.cnd)} · ${rateOf(t, sum)}${traffic}`, ...bad));
+    el('p', {}, span('dim', 'in all: '),
+      `up in ${count(sum.up, 'turn')} · Cm ${rangeWords(sum.cm)} · CnD ${rangeWords(sum.cnd)} · ${rateOf(t, sum)}${
+        traffic}`,
+      ...bad));
 }
 
 // The sink over time, as a ribbon, with the chosen turn.
@@ -83,6 +100,7 @@ function drawRibbon(canvas, t) {
 
 function ribbonFill(g, cell) {
   if (cell.look === 'down') return look['bad-fill'];
-  if (SIGNALS.includes(cell.look)) return stripes(g, seen(about.colours.signal[cell.look]), look.card, cell.look === 'AIS');
+  if (SIGNALS.includes(cell.look))
+    return stripes(g, onGround(about.colours.signal[cell.look]), look.card, cell.look === 'AIS');
   return cell.look === 'waiting' ? look.dim : look['good-fill'];
 }

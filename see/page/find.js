@@ -1,6 +1,10 @@
 // The search: a turn, a frame, an MFAS, or words of customers, packets and events, one hit after the other.
 
-const search = { words: '', hits: [], at: -1 };
+const search = {
+  words: '',
+  hits: [],
+  at: -1
+};
 
 // `way` is 1 for the next hit, -1 for the one before.
 function find(text, way = 1) {
@@ -9,9 +13,9 @@ function find(text, way = 1) {
   const number = /^(turn|frame|mfas)\s*(\d+|0x[0-9a-f]+)$/.exec(words);
   if (number) return findNumber(number[1], +number[2], way);
   if (words !== search.words || search.proved !== state.proved) {
-    Object.assign(search, { words, proved: state.proved, hits: hitsOf(words), at: way > 0 ? -1 : 0 });
+    Object.assign(search, {words, proved: state.proved, hits: hitsOf(words), at: way > 0 ? -1 : 0});
   }
-  const { hits } = search;
+  const {hits} = search;
   if (!hits.length) return say(`nothing has “${text.trim()}”`, true);
   search.at = (search.at + way + hits.length) % hits.length;
   const hit = hits[search.at];
@@ -43,16 +47,19 @@ function findNumber(kind, value, way) {
 function hitsOf(words) {
   const has = text => text.toLowerCase().includes(words), hits = [];
   for (const t of line.tributaries) {
-    if (has(`${nameOf(t)} ${state.proved ? '' : t.trace} port ${t.port}`)) hits.push({ what: `customer ${nameOf(t)}`, go: () => goCustomer(t) });
+    if (has(`${nameOf(t)} ${state.proved ? '' : t.trace} port ${t.port}`))
+      hits.push({what: `customer ${nameOf(t)}`, go: () => goCustomer(t)});
   }
   if (!state.proved) {
     for (let p = 0; p < line.packets.count; p++) {
-      const { from, to, kind, info } = decodedPacket(p);
-      if (has(`${from} ${to} ${kind} ${info}`)) hits.push({ what: `packet of turn ${line.packets.turn[p]}`, go: () => openPacket(p) });
+      const {from, to, kind, info} = decodedPacket(p);
+      if (has(`${from} ${to} ${kind} ${info}`))
+        hits.push({what: `packet of turn ${line.packets.turn[p]}`, go: () => openPacket(p)});
     }
   }
   line.events.forEach((event, x) => {
-    if (has(`${eventWho(event)} ${eventWords(event)}`) && eventWords(event)) hits.push({ what: `event of turn ${event.turn + 1}`, go: () => openEvent(x) });
+    if (has(`${eventWho(event)} ${eventWords(event)}`) && eventWords(event))
+      hits.push({what: `event of turn ${event.turn + 1}`, go: () => openEvent(x)});
   });
   return hits;
 }
@@ -62,13 +69,13 @@ function goCustomer(t) {
   state.tributary = t.number;
   state.what = null;
   state.tab = 'customers';
-  const first = Array.from({ length: t.turns }, (_, n) => t.start - 1 + n).find(i => line.heard.cm[heardAt(t, i)] >= 0);
+  const first = Array.from({length: t.turns}, (_, n) => t.start - 1 + n).find(i => line.heard.cm[heardAt(t, i)] >= 0);
   goTurn(first === undefined ? t.start - 1 : first, t.message);
 }
 
 function openPacket(p) {
   state.tab = 'packets';
-  Object.assign(packetView, { customer: -1, only: false });
+  Object.assign(packetView, {customer: -1, only: false});
   $('only').checked = false;
   goPacket(p);
 }

@@ -1,21 +1,31 @@
-// Which of the 15,232 groups of a customer are data and which are stuff, and what they were for another Cm (G.709 Annex D).
+// Which of the 15,232 groups of a customer are data, which are stuff, and what they were for another Cm (Annex D).
 
 const isData = (j, cm) => j * cm % GROUPS < cm;
 
 function makeGmp() {
   const set = value => setWhat(clamp(Math.round(+value) || 0, 0, GROUPS));
-  const number = (id, label, least, more) => el('input', { type: 'number', id, 'aria-label': label, min: least, max: GROUPS, ...more });
+  const number = (id, label, least, more) =>
+    el('input', {type: 'number', id, 'aria-label': label, min: least, max: GROUPS, ...more});
   return [
-    el('div', { class: 'bar' }, customerChoice('gmp-of', false, goTributary), el('span', { class: 'dim', id: 'gmp-turn' })),
-    el('p', { id: 'gmp-sum' }),
-    el('canvas', { id: 'groups', class: 'picture', role: 'img' }),
-    el('p', { class: 'dim explained', id: 'group-words', 'aria-live': 'polite' }),
-    el('div', { class: 'bar' }, el('label', {}, 'group ', number('group', 'Group', 1, { on: { input: event => explain(+event.target.value) } })),
-      span('push'), el('label', {}, 'what if Cm were ', number('what', 'What if Cm were', 0, { on: { change: event => set(event.target.value) } })),
-      el('button', { type: 'button', id: 'as-sent', on: { click: () => setWhat(null) } }, 'as sent')),
-    el('input', { type: 'range', id: 'what-slider', min: 0, max: GROUPS, 'aria-label': 'What if Cm were', on: { input: event => set(event.target.value) } }),
-    el('h3', {}, 'Cm and CnD over the turns'),
-    el('canvas', { id: 'numbers', class: 'picture', role: 'img' })];
+    el('div', {class: 'bar'}, customerChoice('gmp-of', false, goTributary), el('span', {class: 'dim', id: 'gmp-turn'})),
+    el('p', {id: 'gmp-sum'}), el('canvas', {id: 'groups', class: 'picture', role: 'img'}),
+    el('p', {class: 'dim explained', id: 'group-words', 'aria-live': 'polite'}),
+    el('div', {class: 'bar'},
+      el('label', {}, 'group ', number('group', 'Group', 1, {on: {input: event => explain(+event.target.value)}})),
+      span('push'),
+      el('label', {}, 'what if Cm were ',
+        number('what', 'What if Cm were', 0, {on: {change: event => set(event.target.value)}})),
+      el('button', {type: 'button', id: 'as-sent', on: {click: () => setWhat(null)}}, 'as sent')),
+    el('input', {
+      type: 'range',
+      id: 'what-slider',
+      min: 0,
+      max: GROUPS,
+      'aria-label': 'What if Cm were',
+      on: {input: event => set(event.target.value)}
+    }),
+    el('h3', {}, 'Cm and CnD over the turns'), el('canvas', {id: 'numbers', class: 'picture', role: 'img'})
+  ];
 }
 
 function setWhat(value) {
@@ -39,13 +49,16 @@ function drawGmp() {
   }
   const h = heardOf(t, state.turn), cm = groupsCm(t), m = t.slots.length;
   $('gmp-of').value = t.number;
-  $('gmp-turn').textContent = h ? `turn ${state.turn + 1}: ${h.state}${h.cm === null ? '' : `, says Cm ${h.cm}, CnD ${h.cnd} for turn ${state.turn + 2}`}`
-    : `not there in turn ${state.turn + 1}`;
+  $('gmp-turn').textContent = h ? `turn ${state.turn + 1}: ${h.state}${
+                                    h.cm === null ? '' : `, says Cm ${h.cm}, CnD ${h.cnd} for turn ${state.turn + 2}`}`
+                                : `not there in turn ${state.turn + 1}`;
   const source = state.what === null ? 'of the turn before' : span('wrong', 'what if');
-  $('gmp-sum').replaceChildren(...(cm === null ? ['There is no Cm from the turn before: no group is taken.']
-    : [`${grouped(GROUPS)} groups of ${count(m, 'byte')} by `, el('b', {}, `Cm ${cm}`), ' ', source, ': ',
-      el('b', {}, grouped(cm)), ' data, ', el('b', {}, grouped(GROUPS - cm)), ' stuff.']));
-  for (const id of ['what', 'what-slider']) if (document.activeElement !== $(id) || state.what === null) $(id).value = cm === null ? 15168 : cm;
+  $('gmp-sum').replaceChildren(...(cm === null ? ['There is no Cm from the turn before: no group is taken.'] : [
+    `${grouped(GROUPS)} groups of ${count(m, 'byte')} by `, el('b', {}, `Cm ${cm}`), ' ', source, ': ',
+    el('b', {}, grouped(cm)), ' data, ', el('b', {}, grouped(GROUPS - cm)), ' stuff.'
+  ]));
+  for (const id of ['what', 'what-slider'])
+    if (document.activeElement !== $(id) || state.what === null) $(id).value = cm === null ? 15168 : cm;
   $('as-sent').disabled = state.what === null;
   drawGroups(t, cm);
   explain(0);
@@ -56,12 +69,12 @@ function drawGmp() {
 
 function numbersPlaces(t, width) {
   const from = t.start - 1, left = 42;
-  return { left, from, turns: t.turns, x: i => left + (i - from) / t.turns * (width - left - 4) };
+  return {left, from, turns: t.turns, x: i => left + (i - from) / t.turns * (width - left - 4)};
 }
 
 function drawNumbers(t) {
   const [g, width] = fresh($('numbers'), 124), place = numbersPlaces(t, width);
-  const { cm, cnd } = line.heard, all = Array.from(cm.subarray(t.place, t.place + t.turns)).filter(value => value > 0);
+  const {cm, cnd} = line.heard, all = Array.from(cm.subarray(t.place, t.place + t.turns)).filter(value => value > 0);
   g.font = FONT;
   g.fillStyle = look.dim;
   g.textAlign = 'right';
@@ -90,7 +103,7 @@ function drawNumbers(t) {
 
 // A step of the line for each run of equal numbers.
 function drawCm(g, t, place, y) {
-  const { cm } = line.heard;
+  const {cm} = line.heard;
   g.strokeStyle = t.colour;
   g.lineWidth = 2;
   g.beginPath();

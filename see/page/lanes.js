@@ -1,23 +1,26 @@
-// The drawing of the line by turns: the whole line with its window, the multiframes, a lane for each kind of damage, and
-// slots (slots.js). Where turns are narrower than a few pixels a column is of several, and shows the worst of them.
+// The drawing of the line by turns: the whole line with its window, the multiframes, a lane for each kind of damage,
+// and slots (slots.js). Where turns are narrower than a few pixels a column is of several, and shows the worst of them.
 
 const LEFT = 92, RIGHT = 10, LANE_STEP = 11, NARROWEST = 3;
 const LANES = [
-  { name: 'FAS', told: true, of: i => turnNumber(i, 'fas') },
-  { name: 'MFAS', told: false, of: i => turnNumber(i, 'mfas') },
-  { name: 'SM BIP-8', told: true, of: i => turnNumber(i, 'sm') },
-  { name: 'PM BIP-8', told: true, of: i => turnNumber(i, 'pm') },
-  { name: 'JC', told: false, of: i => line.wrongMessages[i] },
-  { name: 'MSI', told: true, of: i => line.wrongMsi[i] },
+  {name: 'FAS', told: true, of: i => turnNumber(i, 'fas')},
+  {name: 'MFAS', told: false, of: i => turnNumber(i, 'mfas')},
+  {name: 'SM BIP-8', told: true, of: i => turnNumber(i, 'sm')},
+  {name: 'PM BIP-8', told: true, of: i => turnNumber(i, 'pm')},
+  {name: 'JC', told: false, of: i => line.wrongMessages[i]},
+  {name: 'MSI', told: true, of: i => line.wrongMsi[i]},
 ];
 const FONT = '10px "DejaVu Sans", "Segoe UI", Helvetica, Arial, sans-serif';
-const drawing = { width: 1000, columns: [] };
+const drawing = {
+  width: 1000,
+  columns: []
+};
 
 // Heights, from the top.
 function heights() {
   const slot = line.slots === 8 ? 23 : 12, whole = 4, align = 24, lanes = 43;
   const slots = lanes + LANES.length * LANE_STEP + 6, axis = slots + line.slots * slot + 4;
-  return { whole, align, lanes, slots, slot, axis, all: axis + 16 };
+  return {whole, align, lanes, slots, slot, axis, all: axis + 16};
 }
 
 // Of each turn: how many messages are wrong, and how many MSI bytes.
@@ -25,10 +28,12 @@ function countWrong() {
   line.wrongMessages = new Uint16Array(about.turns);
   line.wrongMsi = new Uint16Array(about.turns);
   for (let i = 0; i < about.turns; i++) {
-    for (let k = 1; k <= line.slots; k++) if (msiWrong(k, i)) line.wrongMsi[i]++;
+    for (let k = 1; k <= line.slots; k++)
+      if (msiWrong(k, i)) line.wrongMsi[i]++;
   }
   for (const t of line.tributaries) {
-    for (let i = t.start - 1; i < t.start - 1 + t.turns; i++) if (messageWrong(t, i)) line.wrongMessages[i]++;
+    for (let i = t.start - 1; i < t.start - 1 + t.turns; i++)
+      if (messageWrong(t, i)) line.wrongMessages[i]++;
   }
 }
 
@@ -45,7 +50,7 @@ function columnsOf(from, to, place) {
   const wide = place(1) - place(0), per = Math.max(1, Math.ceil(NARROWEST / wide)), columns = [];
   for (let i = Math.floor(Math.max(0, from) / per) * per; i < Math.min(line.turns, to); i += per) {
     const end = Math.min(i + per, line.turns), x = place(i);
-    columns.push({ i, end, x, width: Math.max(1, place(end) - x - (wide > 5 ? 1 : 0)) });
+    columns.push({i, end, x, width: Math.max(1, place(end) - x - (wide > 5 ? 1 : 0))});
   }
   return columns;
 }
@@ -179,7 +184,8 @@ function drawWords(g, h) {
   const step = [1, 2, 5, 10, 20, 50, 100, 200, 500, 1000, 2000, 5000, 10000].find(s => s * wide >= 54) || 20000;
   for (let i = Math.floor(state.from); i < Math.min(line.turns, state.to); i++) {
     const x = xOf(i) + wide / 2;
-    if ((i === 0 || (i + 1) % step === 0) && x > LEFT && x < drawing.width - RIGHT) g.fillText(grouped(i + 1), x, h.axis + 7);
+    if ((i === 0 || (i + 1) % step === 0) && x > LEFT && x < drawing.width - RIGHT)
+      g.fillText(grouped(i + 1), x, h.axis + 7);
   }
 }
 

@@ -49,10 +49,14 @@ async function start() {
   begin();
   setProved(state.proved);
   window.addEventListener('resize', redraw);
-  window.otn = { ready: performance.now(), about, line, state, turnOf, turnNumbers, msiNumbers, heardOf, overhead, frameOf, packetBytes, find, goTurn, goFrame, isData };
+  window.otn = {
+    ready: performance.now(), about, line, state, turnOf, turnNumbers, msiNumbers, heardOf, overhead, frameOf, packetBytes,
+    isData, find, goTurn, goFrame, setProved
+  };
 }
 
 start().catch(fault => {
-  document.body.prepend(el('p', { class: 'notice' }, `The page can't be shown: ${fault.message}. It wants a browser of 2024 or later.`));
+  document.body.prepend(
+    el('p', {class: 'notice'}, `The page can't be shown: ${fault.message}. It wants a browser of 2024 or later.`));
   throw fault;
 });

@@ -1,13 +1,26 @@
 // What the overhead of a frame says: alignment, parity, status, the MSI byte, and the message of its slot bit by bit.
 
 const FAS = [0xF6, 0xF6, 0xF6, 0x28, 0x28, 0x28];
-const STATUS = { 1: 'normal', 5: 'LCK', 6: 'OCI', 7: 'AIS' };
-const HOW = { outright: 'outright', '=': 'as before', '+1': '+1', '-1': '−1', '+2': '+2', '-2': '−2' };
+const STATUS = {
+  1: 'normal',
+  5: 'LCK',
+  6: 'OCI',
+  7: 'AIS'
+};
+const HOW = {
+  outright: 'outright',
+  '=': 'as before',
+  '+1': '+1',
+  '-1': '−1',
+  '+2': '+2',
+  '-2': '−2'
+};
 
 // The remainder of a number of so many bits by a generator.
 function remainder(value, bits, generator, degree) {
   let rest = value << degree;
-  for (let i = bits + degree - 1; i >= degree; i--) if (rest >> i & 1) rest ^= generator << i - degree;
+  for (let i = bits + degree - 1; i >= degree; i--)
+    if (rest >> i & 1) rest ^= generator << i - degree;
   return rest;
 }
 
@@ -23,9 +36,18 @@ function frameOf(f) {
   const i = line.frameTurn[f], place = line.framePlace[f], first = i < 0 ? -1 : turnNumber(i, 'first');
   const mfas = overhead(f, 1, 7), wanted = first < 0 || place < 0 ? null : (first + place) % 256;
   return {
-    f, turn: i, place, mfas, wanted, fas: fasRight(f), sm: parityRight(f, 1, 9), pm: parityRight(f, 3, 11),
-    status: overhead(f, 3, 12) & 7, psi: psiText(overhead(f, 4, 15), wanted === null ? mfas : wanted),
-    slot: place >= 0 ? place + 1 : null, message: messageOf(f, i, place + 1),
+    f,
+    turn: i,
+    place,
+    mfas,
+    wanted,
+    fas: fasRight(f),
+    sm: parityRight(f, 1, 9),
+    pm: parityRight(f, 3, 11),
+    status: overhead(f, 3, 12) & 7,
+    psi: psiText(overhead(f, 4, 15), wanted === null ? mfas : wanted),
+    slot: place >= 0 ? place + 1 : null,
+    message: messageOf(f, i, place + 1),
   };
 }
 
@@ -43,10 +65,16 @@ function psiText(byte, mfas) {
 function messageOf(f, i, slot) {
   const [jc1, jc2, jc3, jc4, jc5, jc6] = [16, 15].flatMap(column => [1, 2, 3].map(row => overhead(f, row, column)));
   const message = {
-    jc: [jc1, jc2, jc3, jc4, jc5, jc6], bits: jc1 << 6 | jc2 >> 2, ii: jc2 >> 1 & 1, di: jc2 & 1,
-    cnd: (jc4 & 31) << 5 | jc5 & 31, some: Boolean(jc1 | jc2 | jc3 | jc4 | jc5 | jc6), tributary: null, owner: null,
+    jc: [jc1, jc2, jc3, jc4, jc5, jc6],
+    bits: jc1 << 6 | jc2 >> 2,
+    ii: jc2 >> 1 & 1,
+    di: jc2 & 1,
+    cnd: (jc4 & 31) << 5 | jc5 & 31,
+    some: Boolean(jc1 | jc2 | jc3 | jc4 | jc5 | jc6),
+    tributary: null,
+    owner: null,
   };
-  Object.assign(message, { crc8: crc8(jc1, jc2), crc5: crc5(message.cnd) });
+  Object.assign(message, {crc8: crc8(jc1, jc2), crc5: crc5(message.cnd)});
   message.right8 = message.crc8 === jc3;
   message.right5 = message.crc5 === (jc6 & 31);
   const owner = i < 0 || slot < 1 ? -1 : ownerOf(slot, i);
@@ -62,7 +90,7 @@ function messageOf(f, i, slot) {
 
 // How a message was said, in a word, and whether that is wrong.
 function saidOf(message) {
-  const { heard } = message;
+  const {heard} = message;
   if (heard.message === 'damaged' || heard.why === 'base lost') return [heard.message, true];
   if (heard.message === 'base lost') return ['no base', false];
   return [heard.how ? HOW[heard.how] : '–', false];
@@ -74,7 +102,7 @@ function inverted(message) {
   return bitsOf(message.bits ^ message.former).map(Boolean);
 }
 
-const bitsOf = number => Array.from({ length: 14 }, (_, x) => number >> 13 - x & 1);
+const bitsOf = number => Array.from({length: 14}, (_, x) => number >> 13 - x & 1);
 
 // In how many of the turns that otn_view told the FAS, SM and PM counts of the page's own frames are its counts.
 function agreeing() {

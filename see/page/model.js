@@ -2,7 +2,11 @@
 // the documents have them: turns, slots, ports, rows and columns from 1, frames and bytes from 0.
 
 const FRAME = 16320, GROUPS = 15232, NO_PORT = 0xC0;
-const line = { slots: about.slots, frames: about.frames, tributaries: about.tributaries };
+const line = {
+  slots: about.slots,
+  frames: about.frames,
+  tributaries: about.tributaries
+};
 const TURN = ['align', 'start', 'used', 'lead', 'fas', 'mfas', 'sm', 'pm', 'first'];
 
 function readLine(part) {
@@ -11,14 +15,20 @@ function readLine(part) {
   line.heads = part('heads', Uint8Array);
   line.parity = part('parity', Uint8Array);
   line.heard = {
-    code: part('code', Uint16Array), cm: part('cm', Int16Array), cnd: part('cnd', Int16Array),
-    emitted: part('emitted', Int32Array), packets: part('packets', Uint16Array),
-    packetBytes: part('packetBytes', Int32Array), bad: part('bad', Uint16Array), why: part('why', Uint16Array),
+    code: part('code', Uint16Array),
+    cm: part('cm', Int16Array),
+    cnd: part('cnd', Int16Array),
+    emitted: part('emitted', Int32Array),
+    packets: part('packets', Uint16Array),
+    packetBytes: part('packetBytes', Int32Array),
+    bad: part('bad', Uint16Array),
+    why: part('why', Uint16Array),
   };
-  line.events = JSON.parse(new TextDecoder().decode(part('events', Uint8Array)))
-    .map(([turn, who, what, alarm, slot, tributary, told]) => ({ turn: turn - 1, who, what, alarm, slot, tributary, told }));
+  line.events = JSON.parse(new TextDecoder().decode(part('events', Uint8Array))).map(([
+    turn, who, what, alarm, slot, tributary, told
+  ]) => ({turn: turn - 1, who, what, alarm, slot, tributary, told}));
   const last = about.turns - 1;
-  line.turns = last > 0 && turnOf(last).used === 0 ? last : about.turns;      // an end without frames is not shown
+  line.turns = last > 0 && turnOf(last).used === 0 ? last : about.turns;  // an end without frames is not shown
   readPackets(part);
   placeFrames();
   placeTributaries();
@@ -26,17 +36,27 @@ function readLine(part) {
 
 function readPackets(part) {
   const kept = part('packetKept', Uint16Array), places = new Uint32Array(kept.length + 1);
-  kept.forEach((size, i) => { places[i + 1] = places[i] + size; });
+  kept.forEach((size, i) => {
+    places[i + 1] = places[i] + size;
+  });
   line.packets = {
-    count: kept.length, kept, places, turn: part('packetTurn', Int32Array), of: part('packetOf', Int32Array),
-    length: part('packetLength', Int32Array), check: part('packetCheck', Uint8Array), bytes: part('packetHeads', Uint8Array),
+    count: kept.length,
+    kept,
+    places,
+    turn: part('packetTurn', Int32Array),
+    of: part('packetOf', Int32Array),
+    length: part('packetLength', Int32Array),
+    check: part('packetCheck', Uint8Array),
+    bytes: part('packetHeads', Uint8Array),
   };
 }
 
 // A turn by name of its numbers.
 function turnOf(i) {
   const turn = {};
-  TURN.forEach((name, x) => { turn[name] = line.turnRows[9 * i + x]; });
+  TURN.forEach((name, x) => {
+    turn[name] = line.turnRows[9 * i + x];
+  });
   turn.align = about.codes.align[turn.align];
   return turn;
 }
@@ -44,7 +64,7 @@ function turnOf(i) {
 const turnNumber = (i, name) => line.turnRows[9 * i + TURN.indexOf(name)];
 const alignCode = i => line.turnRows[9 * i];
 
-// The turn of each frame, and its place in the multiframe: below 0 where it was passed over, or no multiframe was found.
+// The turn of each frame, and its place in the multiframe: below 0 where it was passed over or none was found.
 function placeFrames() {
   line.frameTurn = new Int32Array(line.frames).fill(-1);
   line.framePlace = new Int16Array(line.frames).fill(-1);
@@ -64,7 +84,7 @@ function placeTributaries() {
   line.tributaries.forEach((t, number) => {
     t.place = place;
     t.number = number;
-    t.message = t.slots[t.slots.length - 1];                                  // the slot of its message
+    t.message = t.slots[t.slots.length - 1];  // the slot of its message
     place += t.turns;
     for (let i = t.start - 1; i < t.start - 1 + t.turns; i++) {
       for (const k of t.slots) line.owner[(k - 1) * about.turns + i] = number;
@@ -86,12 +106,21 @@ function heardAt(t, i) {
 function heardOf(t, i) {
   const x = heardAt(t, i);
   if (x < 0) return null;
-  const { heard } = line, { states, looks, clients, messages, hows } = about.codes, code = heard.code[x];
+  const {heard} = line, {states, looks, clients, messages, hows} = about.codes, code = heard.code[x];
   const none = value => (value < 0 ? null : value);
   return {
-    state: states[code & 3], look: looks[code >> 2 & 7], client: clients[code >> 5 & 7], message: messages[code >> 8 & 3],
-    how: hows[code >> 10 & 7], cm: none(heard.cm[x]), cnd: none(heard.cnd[x]), emitted: heard.emitted[x],
-    packets: heard.packets[x], packetBytes: heard.packetBytes[x], bad: heard.bad[x], why: about.whys[heard.why[x]],
+    state: states[code & 3],
+    look: looks[code >> 2 & 7],
+    client: clients[code >> 5 & 7],
+    message: messages[code >> 8 & 3],
+    how: hows[code >> 10 & 7],
+    cm: none(heard.cm[x]),
+    cnd: none(heard.cnd[x]),
+    emitted: heard.emitted[x],
+    packets: heard.packets[x],
+    packetBytes: heard.packetBytes[x],
+    bad: heard.bad[x],
+    why: about.whys[heard.why[x]],
   };
 }
 

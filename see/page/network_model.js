@@ -1,7 +1,9 @@
 // The network: its sites, fibres and customers as the script gave them, and what belongs together.
 
 const net = JSON.parse($('about').textContent);
-const chosen = { kind: null };                        // customer (base), fibre (fibre), slot (fibre, slot), site (site)
+const chosen = {
+  kind: null
+};  // customer (base), fibre (fibre), slot (fibre, slot), site (site)
 const bases = [...new Set(net.customers.map(c => c.base))];
 const hueOf = base => Math.round(bases.indexOf(base) * 137.508 % 360);
 const siteIndex = new Map(net.sites.flatMap((site, x) => site.nodes.map(node => [node, x])));
@@ -29,8 +31,10 @@ function slotsText(slots) {
   const parts = [];
   for (const k of slots) {
     const last = parts[parts.length - 1];
-    if (last && last[1] === k - 1) last[1] = k;
-    else parts.push([k, k]);
+    if (last && last[1] === k - 1)
+      last[1] = k;
+    else
+      parts.push([k, k]);
   }
   return parts.map(([a, b]) => (a === b ? `${a}` : b === a + 1 ? `${a}, ${b}` : `${a}–${b}`)).join(', ');
 }
@@ -40,7 +44,8 @@ const fibresOf = base => net.fibres.map((_, x) => x).filter(x => slotsOn(net.fib
 
 // All that does not meet, and why.
 function troubles() {
-  const ways = net.customers.flatMap(c => c.hops.flatMap(hop => hop.trouble.map(text => `${hop.node}: ${hop.name}: ${text}`)));
+  const ways =
+    net.customers.flatMap(c => c.hops.flatMap(hop => hop.trouble.map(text => `${hop.node}: ${hop.name}: ${text}`)));
   return [...ways, ...net.fibres.flatMap(f => f.trouble.map(text => `${fibreName(f)}: ${text}`))];
 }
 
@@ -66,7 +71,8 @@ function belongs(x) {
 function customerBelongs(base) {
   const own = chosenBase();
   if (own) return base === own;
-  if (chosen.kind === 'site') return customersOf(base).some(c => c.hops.some(hop => siteIndex.get(hop.node) === chosen.site));
+  if (chosen.kind === 'site')
+    return customersOf(base).some(c => c.hops.some(hop => siteIndex.get(hop.node) === chosen.site));
   return chosen.kind === null || slotsOn(net.fibres[chosen.fibre], base).length > 0;
 }
 

@@ -1,7 +1,12 @@
 // The packets that the page keeps: those about the chosen turn, of all customers or of one, and the chosen one in full.
 
 const SHOWN = 200, BEFORE = 20, REFUSED_CHECK = 0, RIGHT_CHECK = 2;
-const decoded = new Map(), packetView = { customer: -1, only: false, from: null, turn: -1 };
+const decoded = new Map(), packetView = {
+  customer: -1,
+  only: false,
+  from: null,
+  turn: -1
+};
 
 function decodedPacket(p) {
   if (!decoded.has(p)) decoded.set(p, decode(packetBytes(p)));
@@ -9,34 +14,37 @@ function decodedPacket(p) {
 }
 
 function makePackets() {
-  const only = el('input', { type: 'checkbox', id: 'only', on: { change: event => setPackets({ only: event.target.checked, from: null }) } });
+  const only = el('input',
+    {type: 'checkbox', id: 'only', on: {change: event => setPackets({only: event.target.checked, from: null})}});
   return [
-    el('p', { class: 'left-out' }, 'Packets are left out: they are read by a script, and this is not proved.'),
-    el('div', { class: 'unproved' },
-      el('div', { class: 'bar' }, customerChoice('packets-of', true, customer => setPackets({ customer, from: null })),
+    el('p', {class: 'left-out'}, 'Packets are left out: they are read by a script, and this is not proved.'),
+    el('div', {class: 'unproved'},
+      el('div', {class: 'bar'}, customerChoice('packets-of', true, customer => setPackets({customer, from: null})),
         el('label', {}, only, ' this turn only')),
-      el('div', { class: 'bar' }, span('dim', el('span', { id: 'packet-count' })), span('push'),
-        el('button', { type: 'button', id: 'packets-before', on: { click: () => pagePackets(-1) } }, '◀ earlier'),
-        el('button', { type: 'button', id: 'packets-after', on: { click: () => pagePackets(1) } }, 'later ▶')),
-      el('div', { class: 'list short' }, el('table', { id: 'packets' })),
-      el('div', { id: 'packet' }),
-      el('p', { class: 'dim', id: 'packets-kept' }, keptWords()))];
+      el('div', {class: 'bar'}, span('dim', el('span', {id: 'packet-count'})), span('push'),
+        el('button', {type: 'button', id: 'packets-before', on: {click: () => pagePackets(-1)}}, '◀ earlier'),
+        el('button', {type: 'button', id: 'packets-after', on: {click: () => pagePackets(1)}}, 'later ▶')),
+      el('div', {class: 'list short'}, el('table', {id: 'packets'})), el('div', {id: 'packet'}),
+      el('p', {class: 'dim', id: 'packets-kept'}, keptWords()))
+  ];
 }
 
 // Which packets the page has, in words.
 function keptWords() {
-  const { all, budget, bytes, packets, turns } = about.kept;
+  const {all, budget, bytes, packets, turns} = about.kept;
   if (all === 0) return 'No packet ended on this line.';
   const whole = bytes >= 65536 ? 'whole' : `the first ${bytes} bytes of each`;
-  if (line.packets.count === all) return `All ${grouped(all)} packets are in the page, ${whole}. Its budget for packets is ${bytesText(budget)}.`;
+  if (line.packets.count === all)
+    return `All ${grouped(all)} packets are in the page, ${whole}. Its budget for packets is ${bytesText(budget)}.`;
   const which = packets >= 65536 ? '' : `of each turn and customer the first${packets > 1 ? ` ${packets}` : ''}`;
   const apart = turns > 1 ? `, of one turn in ${turns}` : '';
-  return `${grouped(line.packets.count)} of ${grouped(all)} packets are in the page: ${which}${apart}, ${whole}. Its budget for packets is ${bytesText(budget)}. All are counted.`;
+  return `${grouped(line.packets.count)} of ${grouped(all)} packets are in the page: ${which}${apart}, ${
+    whole}. Its budget for packets is ${bytesText(budget)}. All are counted.`;
 }
 
 // The packets of the chosen customer and turn.
 function packetList() {
-  const { count: all, of, turn } = line.packets, list = [];
+  const {count: all, of, turn} = line.packets, list = [];
   for (let p = 0; p < all; p++) {
     if (packetView.customer >= 0 && of[p] !== packetView.customer) continue;
     if (packetView.only && turn[p] !== state.turn + 1) continue;
@@ -57,7 +65,7 @@ function pagePackets(way) {
 
 function drawPackets() {
   if (state.proved) return;
-  if (packetView.turn !== state.turn) Object.assign(packetView, { turn: state.turn, from: null });
+  if (packetView.turn !== state.turn) Object.assign(packetView, {turn: state.turn, from: null});
   const list = packetList(), here = list.findIndex(p => line.packets.turn[p] >= state.turn + 1);
   const chosen = list.indexOf(state.packet);
   let from = packetView.from;
@@ -65,20 +73,22 @@ function drawPackets() {
   packetView.shown = clamp(from, 0, Math.max(0, list.length - 1));
   const shown = list.slice(packetView.shown, packetView.shown + SHOWN);
   $('packets-of').value = packetView.customer;
-  $('packet-count').textContent = `${count(list.length, 'packet')}${shown.length < list.length ? `, ${shown.length} shown` : ''}`;
+  $('packet-count').textContent =
+    `${count(list.length, 'packet')}${shown.length < list.length ? `, ${shown.length} shown` : ''}`;
   $('packets-before').disabled = packetView.shown === 0;
   $('packets-after').disabled = packetView.shown + SHOWN >= list.length;
-  keepFocus($('packets'), () => fill($('packets'), 'Packets', ['turn', 'customer', 'packet', 'bytes', 'FCS'], shown.map(packetRow)));
+  keepFocus($('packets'),
+    () => fill($('packets'), 'Packets', ['turn', 'customer', 'packet', 'bytes', 'FCS'], shown.map(packetRow)));
   const box = $('packets').parentElement;
   intoSight(box, box.querySelector('tr.on') || box.querySelector('tr.now'));
   drawPacket();
 }
 
 function packetRow(p) {
-  const { turn, of, length } = line.packets, t = line.tributaries[of[p]];
+  const {turn, of, length} = line.packets, t = line.tributaries[of[p]];
   const kind = p === state.packet ? 'on' : turn[p] === state.turn + 1 ? 'now' : '';
-  return el('tr', { 'data-i': p, class: kind, 'aria-selected': p === state.packet ? 'true' : null },
-    el('td', {}, `${turn[p]}`), el('td', {}, swatch(t.colour), nameOf(t)), el('td', { class: 'wrap' }, packetCell(p)),
+  return el('tr', {'data-i': p, class: kind, 'aria-selected': p === state.packet ? 'true' : null},
+    el('td', {}, `${turn[p]}`), el('td', {}, swatch(t.colour), nameOf(t)), el('td', {class: 'wrap'}, packetCell(p)),
     el('td', {}, grouped(length[p])), el('td', {}, fcsOf(p)));
 }
 
@@ -91,7 +101,7 @@ function packetCell(p) {
 
 // Whether the frame check sequence is right. Where most packets of a customer have one, one without is wrong.
 function fcsOf(p) {
-  const { check, of } = line.packets;
+  const {check, of} = line.packets;
   if (check[p] === REFUSED_CHECK) return '';
   if (check[p] === RIGHT_CHECK) return mark(true);
   return hasFcs(of[p]) ? mark(false) : span('dim', 'none');
@@ -101,7 +111,7 @@ const fcsKnown = new Map();
 
 function hasFcs(customer) {
   if (!fcsKnown.has(customer)) {
-    const { check, of } = line.packets;
+    const {check, of} = line.packets;
     let right = 0, all = 0;
     for (let p = 0; p < of.length; p++) {
       if (of[p] === customer && check[p] !== REFUSED_CHECK) {
@@ -134,12 +144,15 @@ function drawPacket() {
     $('packet').replaceChildren();
     return;
   }
-  const { turn, of, length, kept, check } = line.packets, t = line.tributaries[of[p]];
+  const {turn, of, length, kept, check} = line.packets, t = line.tributaries[of[p]];
   const part = kept[p] < length[p] && check[p] !== REFUSED_CHECK ? `, the first ${kept[p]} bytes` : '';
   const place = `ended in turn ${turn[p]}, ${nameOf(t)}${part}`;
   const heads = check[p] === REFUSED_CHECK ? [] : decodedPacket(p).heads;
-  $('packet').replaceChildren(
-    el('h3', {}, check[p] === REFUSED_CHECK ? `GFP frame of ${grouped(length[p])} bytes ` : `Packet of ${grouped(length[p])} bytes `, span('dim', place)),
+  $('packet').replaceChildren(el('h3', {},
+                                check[p] === REFUSED_CHECK ? `GFP frame of ${grouped(length[p])} bytes `
+                                                           : `Packet of ${grouped(length[p])} bytes `,
+                                span('dim', place)),
     ...heads.map(([name, text]) => el('p', {}, el('b', {}, name), ` ${text}`)),
-    ...(kept[p] ? [el('pre', { class: 'mono', tabindex: 0, 'aria-label': 'Bytes of the packet' }, dump(packetBytes(p)))] : []));
+    ...(kept[p] ? [el('pre', {class: 'mono', tabindex: 0, 'aria-label': 'Bytes of the packet'}, dump(packetBytes(p)))]
+                : []));
 }

@@ -1,7 +1,9 @@
 // Mouse and touch in the drawing of the line: a click chooses, a drag moves, the wheel zooms; in the whole line the
 // window is moved, or one of its edges.
 
-const drag = { on: false };
+const drag = {
+  on: false
+};
 
 function pointers() {
   const canvas = $('line');
@@ -9,11 +11,13 @@ function pointers() {
     event.preventDefault();
     const x = placeIn(canvas, event)[0];
     zoom(state.from + (x - LEFT) / inner() * (state.to - state.from), event.deltaY > 0 ? 1.25 : .8);
-  }, { passive: false });
+  }, {passive: false});
   canvas.addEventListener('pointerdown', event => startDrag(canvas, event));
   canvas.addEventListener('pointermove', event => (drag.on ? moveDrag(canvas, event) : pointAt(canvas, event)));
   canvas.addEventListener('pointerup', event => endDrag(canvas, event));
-  canvas.addEventListener('pointercancel', () => { drag.on = false; });
+  canvas.addEventListener('pointercancel', () => {
+    drag.on = false;
+  });
   canvas.addEventListener('pointerleave', event => tip(event, ''));
 }
 
@@ -31,11 +35,11 @@ function startDrag(canvas, event) {
   const [x, y] = placeIn(canvas, event), whole = inWhole(y);
   const near = turn => Math.abs(x - wholeX(turn)) < 6;
   const edge = !whole ? null : near(state.from) ? 'from' : near(state.to) ? 'to' : null;
-  Object.assign(drag, { on: true, x, moved: false, whole, edge, from: state.from, to: state.to });
+  Object.assign(drag, {on: true, x, moved: false, whole, edge, from: state.from, to: state.to});
   const at = wholeTurn(x);
   if (whole && !edge && (at < state.from || at > state.to)) {
     setPart(at - (state.to - state.from) / 2, state.to - state.from);
-    Object.assign(drag, { from: state.from, to: state.to, moved: true });
+    Object.assign(drag, {from: state.from, to: state.to, moved: true});
     drawLine();
   }
 }
@@ -45,9 +49,12 @@ function moveDrag(canvas, event) {
   if (!drag.moved && Math.abs(x - drag.x) < 4) return;
   drag.moved = true;
   const by = (x - drag.x) / inner() * (drag.whole ? line.turns : drag.from - drag.to);
-  if (drag.edge === 'from') setPart(Math.min(drag.from + by, drag.to - 1), drag.to - Math.min(drag.from + by, drag.to - 1));
-  else if (drag.edge === 'to') setPart(drag.from, Math.max(1, drag.to + by - drag.from));
-  else setPart(drag.from + by, drag.to - drag.from);
+  if (drag.edge === 'from')
+    setPart(Math.min(drag.from + by, drag.to - 1), drag.to - Math.min(drag.from + by, drag.to - 1));
+  else if (drag.edge === 'to')
+    setPart(drag.from, Math.max(1, drag.to + by - drag.from));
+  else
+    setPart(drag.from + by, drag.to - drag.from);
   drawLine();
 }
 
@@ -59,8 +66,10 @@ function endDrag(canvas, event) {
     return;
   }
   const [x, y] = placeIn(canvas, event);
-  if (drag.whole) goTurn(Math.floor(wholeTurn(x)));
-  else chooseAt(x, y);
+  if (drag.whole)
+    goTurn(Math.floor(wholeTurn(x)));
+  else
+    chooseAt(x, y);
 }
 
 // The turn that is clicked; its frame too where frames are wide enough, else that of the slot's message.
@@ -84,16 +93,24 @@ function slotAt(y) {
 
 function pointAt(canvas, event) {
   const [x, y] = placeIn(canvas, event), i = inWhole(y) ? Math.floor(wholeTurn(x)) : turnAt(x);
-  if (x < LEFT || i < 0 || i >= line.turns) tip(event, '');
-  else tip(event, [turnWords(i), slotAt(y) && !inWhole(y) ? slotWords(slotAt(y), i) : ''].filter(Boolean).join('\n'));
+  if (x < LEFT || i < 0 || i >= line.turns)
+    tip(event, '');
+  else
+    tip(event, [turnWords(i), slotAt(y) && !inWhole(y) ? slotWords(slotAt(y), i) : ''].filter(Boolean).join('\n'));
 }
 
-const ALIGNED = { ok: 'whole multiframe', lost: 'multiframe lost', hunt: 'no multiframe', end: 'the line ends' };
+const ALIGNED = {
+  ok: 'whole multiframe',
+  lost: 'multiframe lost',
+  hunt: 'no multiframe',
+  end: 'the line ends'
+};
 
 // A turn in words: its frames, and what is wrong in how many.
 function turnWords(i) {
   const turn = turnOf(i), lead = turn.lead && turn.align === 'ok' ? `, ${turn.lead} passed over` : '';
-  return `turn ${i + 1}: ${ALIGNED[turn.align]}${framesWords(turn)}${lead}${wrongWords(turn).map(w => `, ${w}`).join('')}`;
+  return `turn ${i + 1}: ${ALIGNED[turn.align]}${framesWords(turn)}${lead}${
+    wrongWords(turn).map(w => `, ${w}`).join('')}`;
 }
 
 function framesWords(turn) {
@@ -104,7 +121,8 @@ function framesWords(turn) {
 
 function wrongWords(turn) {
   const kinds = [['FAS', 'fas'], ['MFAS', 'mfas'], ['SM BIP-8', 'sm'], ['PM BIP-8', 'pm']];
-  return kinds.filter(([name, key]) => turn[key] && !(state.proved && name === 'MFAS')).map(([name, key]) => `${name} wrong in ${turn[key]}`);
+  return kinds.filter(([name, key]) => turn[key] && !(state.proved && name === 'MFAS')).map(([name,
+    key]) => `${name} wrong in ${turn[key]}`);
 }
 
 const turnSpoken = () => turnWords(state.turn);

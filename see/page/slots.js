@@ -1,4 +1,4 @@
-// The rows of the slots in the drawing of the line: whose a slot is and how its sink is, as in the pictures of otn-picture.
+// The rows of the slots in the drawing of the line: whose a slot is and how its sink is, as otn-picture draws them.
 
 const SIGNALS = ['AIS', 'LCK', 'OCI'];
 const patterns = new Map();
@@ -7,7 +7,7 @@ const patterns = new Map();
 function stripes(g, colour, ground, slanting) {
   const key = `${colour} ${ground} ${slanting}`;
   if (!patterns.has(key)) {
-    const tile = el('canvas', { width: 8, height: 8 }), t = tile.getContext('2d');
+    const tile = el('canvas', {width: 8, height: 8}), t = tile.getContext('2d');
     t.fillStyle = ground;
     t.fillRect(0, 0, 8, 8);
     t.strokeStyle = colour;
@@ -29,24 +29,27 @@ function cellOf(k, column) {
   let best = null;
   for (let i = column.i; i < column.end; i++) {
     const cell = cellOfTurn(k, i);
-    if (!best || cell.rank < best.rank) best = cell;
-    else if (cell.rank === best.rank && cell.packets) best.packets = true;
+    if (!best || cell.rank < best.rank)
+      best = cell;
+    else if (cell.rank === best.rank && cell.packets)
+      best.packets = true;
   }
   return best;
 }
 
 function cellOfTurn(k, i) {
-  if (about.codes.align[alignCode(i)] === 'end') return { owner: -1, look: 'end', rank: 9, packets: false };
+  if (about.codes.align[alignCode(i)] === 'end') return {owner: -1, look: 'end', rank: 9, packets: false};
   const owner = ownerOf(k, i);
   if (owner < 0) {
     const byte = msiOf(k, i);
-    return { owner, look: byte === null ? 'unseen' : byte === NO_PORT ? 'free' : 'other', rank: 8, packets: false };
+    return {owner, look: byte === null ? 'unseen' : byte === NO_PORT ? 'free' : 'other', rank: 8, packets: false};
   }
-  const x = heardAt(line.tributaries[owner], i), { heard } = line;
+  const x = heardAt(line.tributaries[owner], i), {heard} = line;
   let rank = heard.code[x] >> 2 & 7;
-  if (state.proved && SIGNALS.includes(about.codes.looks[rank])) rank = about.codes.looks.indexOf(heard.cm[x] > 0 ? 'up' : 'empty');
+  if (state.proved && SIGNALS.includes(about.codes.looks[rank]))
+    rank = about.codes.looks.indexOf(heard.cm[x] > 0 ? 'up' : 'empty');
   const shown = about.codes.looks[rank];
-  return { owner, look: shown, rank, packets: shown === 'up' && !state.proved && heard.packets[x] > 0 };
+  return {owner, look: shown, rank, packets: shown === 'up' && !state.proved && heard.packets[x] > 0};
 }
 
 // Equal cells that stand side by side.
@@ -54,8 +57,10 @@ function runsOf(k) {
   const runs = [];
   for (const column of drawing.columns) {
     const cell = cellOf(k, column), last = runs[runs.length - 1], end = column.x + column.width;
-    if (last && last.owner === cell.owner && last.look === cell.look && last.packets === cell.packets) last.end = end;
-    else runs.push({ ...cell, x: column.x, end });
+    if (last && last.owner === cell.owner && last.look === cell.look && last.packets === cell.packets)
+      last.end = end;
+    else
+      runs.push({...cell, x: column.x, end});
   }
   return runs;
 }
@@ -72,7 +77,7 @@ function drawSlots(g, h) {
 function drawRun(g, run, y, tall) {
   const x = Math.max(run.x, LEFT - 2), wide = run.end - x;
   if (run.owner < 0) {
-    const fills = { free: look.pale, end: look.card, unseen: look.card };
+    const fills = {free: look.pale, end: look.card, unseen: look.card};
     g.fillStyle = fills[run.look] || stripes(g, look.dim, look.pale, false);
     g.fillRect(x, y, wide, tall);
     return;
@@ -86,7 +91,7 @@ function drawRun(g, run, y, tall) {
   } else if (SIGNALS.includes(run.look)) {
     drawSignal(g, run.look, x, y, wide, tall);
   } else {
-    g.globalAlpha = { waiting: .2, empty: .3 }[run.look] || (run.packets ? 1 : .58);
+    g.globalAlpha = {waiting: .2, empty: .3}[run.look] || (run.packets ? 1 : .58);
     g.fillStyle = own;
     g.fillRect(x, y, wide, tall);
     g.globalAlpha = 1;
@@ -94,7 +99,7 @@ function drawRun(g, run, y, tall) {
 }
 
 function drawSignal(g, signal, x, y, wide, tall) {
-  const colour = seen(about.colours.signal[signal]);
+  const colour = onGround(about.colours.signal[signal]);
   g.fillStyle = stripes(g, colour, look.card, signal === 'AIS');
   g.fillRect(x, y, wide, tall);
   if (wide < 32 || tall < 14) return;
@@ -122,7 +127,8 @@ function drawNames(g, k, runs, y, tall) {
     const x = Math.max(run.x, LEFT) + 5, room = end - x - 3;
     g.font = `bold ${line.slots === 8 ? FONT.replace('10px', '11px') : FONT.replace('10px', '9px')}`;
     const words = [`port ${t.port} · ${nameOf(t)}`, nameOf(t), `port ${t.port}`, `${t.port}`];
-    const text = (t.name || nameOf(t) !== `port ${t.port}` ? words : words.slice(2)).find(w => g.measureText(w).width <= room);
+    const text =
+      (t.name || nameOf(t) !== `port ${t.port}` ? words : words.slice(2)).find(w => g.measureText(w).width <= room);
     if (!text) return;
     shown.add(run.owner);
     g.lineWidth = 3;
@@ -170,7 +176,7 @@ function diamond(g, x, y, size) {
 // ---- what the colours mean
 
 function drawLegend() {
-  const blue = line.tributaries.length ? line.tributaries[0].colour : '#4878b0', { signal } = about.colours;
+  const blue = line.tributaries.length ? line.tributaries[0].colour : '#4878b0', {signal} = about.colours;
   const key = (words, fill, faint = 1, slanting = null) => {
     const tile = el('canvas'), g = tile.getContext('2d');
     tile.width = 40;
@@ -181,7 +187,7 @@ function drawLegend() {
     return span('', tile, words);
   };
   const seen = state.proved ? [key('up', blue, .58)] : [key('packets end', blue), key('up, idle', blue, .58)];
-  const signals = state.proved ? [] : SIGNALS.map(s => key(s, seen(signal[s]), 1, s === 'AIS'));
+  const signals = state.proved ? [] : SIGNALS.map(s => key(s, onGround(signal[s]), 1, s === 'AIS'));
   const marks = state.proved ? [] : [span('', span('bad', '◆'), ' message damaged')];
   $('legend').replaceChildren(...seen, key('up, Cm 0', blue, .3), key('waiting', blue, .2),
     key('down', look['bad-fill'], 1, true), ...signals, key('free', look.pale), ...marks,

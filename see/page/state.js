@@ -1,7 +1,17 @@
 // What is chosen: a turn, a frame, a customer, a packet, the part of the line that is shown, and whether only proved
 // numbers are. Parts of the page draw themselves anew when it changes; the address of the page keeps it.
 
-const state = { turn: 0, frame: 0, tributary: 0, packet: -1, from: 0, to: 1, tab: 'customers', what: null, proved: false };
+const state = {
+  turn: 0,
+  frame: 0,
+  tributary: 0,
+  packet: -1,
+  from: 0,
+  to: 1,
+  tab: 'customers',
+  what: null,
+  proved: false
+};
 const watchers = [];
 
 // Calls `draw` whenever something is chosen.
@@ -27,7 +37,7 @@ function goFrame(f) {
   if (line.frames === 0 || line.frameTurn[frame] < 0) return;
   state.frame = frame;
   state.turn = Math.min(line.frameTurn[frame], line.turns - 1);
-  const { tributary } = frameOf(frame).message;
+  const {tributary} = frameOf(frame).message;
   if (tributary) state.tributary = tributary.number;
   showTurn();
   changed();
@@ -75,8 +85,9 @@ let waiting = 0;
 function keepAddress() {
   clearTimeout(waiting);
   waiting = setTimeout(() => {
-    const words = { turn: state.turn + 1, frame: state.frame, tab: state.tab, customer: state.tributary };
-    if (state.to - state.from < line.turns) Object.assign(words, { from: state.from.toFixed(1), to: state.to.toFixed(1) });
+    const words = {turn: state.turn + 1, frame: state.frame, tab: state.tab, customer: state.tributary};
+    if (state.to - state.from < line.turns)
+      Object.assign(words, {from: state.from.toFixed(1), to: state.to.toFixed(1)});
     if (state.packet >= 0) words.packet = state.packet;
     if (state.proved) words.proved = 1;
     history.replaceState(null, '', `#${new URLSearchParams(words)}`);
@@ -93,8 +104,11 @@ function begin() {
   state.packet = words.has('packet') ? clamp(number('packet') || 0, -1, line.packets.count - 1) : -1;
   state.proved = words.has('proved');
   const alarm = line.events.find(e => e.alarm);
-  if (words.has('turn')) goTurn((number('turn') || 1) - 1);
-  else if (alarm) goEvent(line.events.indexOf(alarm));
-  else goTurn(2);
+  if (words.has('turn'))
+    goTurn((number('turn') || 1) - 1);
+  else if (alarm)
+    goEvent(line.events.indexOf(alarm));
+  else
+    goTurn(2);
   if (words.has('frame')) goFrame(number('frame') || 0);
 }
