@@ -33,13 +33,13 @@ def line_events(line):
         if turn.alignment == 'hunt':
             yield event(f'no multiframe in {count(len(turn.used), "frame")}')
         elif turn.alignment == 'lost':
-            yield event(f'multiframe lost, {turn.mfas} MFAS bytes wrong', 'multiframe lost')
+            yield event(f'lost multiframe, MFAS wrong in {turn.mfas}', 'lost multiframe')
         elif turn.alignment == 'end' and turn.used:
             yield event(f'ends after {len(turn.used) - turn.lead} of {line.s} frames')
         elif turn.mfas:
             yield event(f'MFAS wrong in {turn.mfas}', '')
         if turn.lead and turn.alignment not in ('hunt', 'end'):
-            yield event(f'locks after {turn.lead} frames', alarm=False)
+            yield event(f'passed over {turn.lead} frames', alarm=False)
         for key, name in COUNTS:
             if key != 'mfas' and getattr(turn, key):
                 yield event(f'{name} wrong in {getattr(turn, key)}')
@@ -74,7 +74,7 @@ def tributary_events(line, number):
         if h.client != client and h.client:
             yield event(f'client {h.client}', h.client != 'normal')
         if h.bad:
-            yield event(f'{count(h.bad, "GFP frame")} of wrong checks')
+            yield event(f'{count(h.bad, "GFP frame")} bad')
         if h.breaks:
             yield event('client frames lost')
         state, client = h.state, h.client or client

@@ -23,6 +23,9 @@ from networks import read_plan
 
 PSI, SM, PM = in_head(4, 15), in_head(1, 9), in_head(3, 11)
 MESSAGE = [in_head(r, c) for c in (16, 15) for r in (1, 2, 3)]
+# how a turn is aligned, in the words of docs/ALARMS.md
+ALIGNED = {'ok': 'whole', 'lost': 'lost multiframe', 'hunt': 'no multiframe', 'end': 'end'}
+SHORT = {'ok': 'whole', 'lost': 'lost', 'hunt': 'none', 'end': 'end'}
 
 
 class Heard:
@@ -115,7 +118,7 @@ class Tributary:
         if h.marked:
             return f'MSI of slot {h.marked[0]} wrong twice'
         if self.damaged == 3:
-            return 'three damaged messages'
+            return '3 messages damaged'
         return 'base lost' if h.message == 'base lost' else None
 
     def extract(self, turn, s):

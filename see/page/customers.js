@@ -56,7 +56,7 @@ function customerCard(t) {
   const sum = sumOfCustomer(t), h = heardOf(t, state.turn), end = sum.last === null ? null : heardOf(t, sum.last);
   const from = `turns ${t.start} to ${Math.min(t.start + t.turns - 1, line.turns)}`;
   const traffic = state.proved ? '' : ` · ${count(sum.packets, 'packet')}, ${bytesText(sum.packetBytes)}`;
-  const bad = !state.proved && sum.bad ? [' · ', span('wrong', `${count(sum.bad, 'GFP frame')} of wrong checks`)] : [];
+  const bad = !state.proved && sum.bad ? [' · ', span('wrong', `${count(sum.bad, 'GFP frame')} bad`)] : [];
   return el('div', {
     class: `customer${t.number === state.tributary ? ' on' : ''}`,
     'data-i': t.number,

@@ -101,7 +101,7 @@ function pointAt(canvas, event) {
 
 const ALIGNED = {
   ok: 'whole multiframe',
-  lost: 'multiframe lost',
+  lost: 'lost multiframe',
   hunt: 'no multiframe',
   end: 'the line ends'
 };
@@ -143,6 +143,6 @@ function heardWords(h) {
   if (h.cm !== null) words.push(`Cm ${h.cm}${state.proved ? '' : ` (${HOW[h.how] || 'kept'})`}`, `CnD ${h.cnd}`);
   words.push(`${grouped(h.emitted)} bytes`);
   if (!state.proved && h.packets) words.push(count(h.packets, 'packet'));
-  if (!state.proved && h.bad) words.push(`${h.bad} of wrong checks`);
+  if (!state.proved && h.bad) words.push(`${h.bad} bad`);
   return words.join(', ') + (!state.proved && h.why ? `: ${h.why}` : '');
 }

@@ -191,6 +191,6 @@ function drawLegend() {
   const marks = state.proved ? [] : [span('', span('bad', '◆'), ' message damaged')];
   $('legend').replaceChildren(...seen, key('up, Cm 0', blue, .3), key('waiting', blue, .2),
     key('down', look['bad-fill'], 1, true), ...signals, key('free', look.pale), ...marks,
-    span('', span('bad', '□'), ' MSI of another'), span('push'),
+    span('', span('bad', '□'), ' MSI wrong'), span('push'),
     span('', 'wheel: zoom · drag: move · click: look · ? for keys'));
 }

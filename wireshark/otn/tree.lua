@@ -62,7 +62,7 @@ local function show_tributary(t, tvb, parent)
         state:add_proto_expert_info(X.up, format("Port %d goes up", t.port))
     end
     if t.before ~= "down" and t.state == "down" then
-        state:add_proto_expert_info(X.down, format("Port %d goes down: %s", t.port, t.ended or "nothing came"))
+        state:add_proto_expert_info(X.down, format("Port %d goes down: %s", t.port, t.ended or "never came up"))
     end
     local count = 0
     for _, e in ipairs(t.odu) do
@@ -99,12 +99,12 @@ local function show_alignment(v)
     local m = v.root:add(F.mfas, v.tvb(6, 1))
     if info.expected then made(m:add(F.mfas_due, v.tvb(6, 1), info.expected)) end
     if info.mfas_wrong then
-        m:add_proto_expert_info(X.mfas, format("MFAS is %d, expected %d", v.mfas, info.expected))
+        m:add_proto_expert_info(X.mfas, format("MFAS wrong: %d, expected %d", v.mfas, info.expected))
         v:wrong("MFAS")
     end
     if info.lost then
         m:add_proto_expert_info(X.lost)
-        v:wrong("multiframe lost")
+        v:wrong("lost multiframe")
     end
 end
 

@@ -31,7 +31,7 @@ local function new_sink(port, slots, S)
         state = "waiting", wrong = {}, twice = {}, damaged = 0, down = 0, ext = "", odu = client_frames.new_reader() }
 end
 
--- The MSI bytes of the turn: answers whether one was wrong twice in a row
+-- The MSI bytes of the turn: answers the least slot of which they were wrong twice in a row, or nil
 local function see_msi(k, frames, expected, marks)
     for n = 0, k.S - 1 do
         local slot = (expected + n) % 256 - 1
@@ -43,10 +43,10 @@ local function see_msi(k, frames, expected, marks)
             end
         end
     end
-    local marked = false
+    local marked
     for _, slot in ipairs(k.slots) do
         if k.twice[slot] then
-            marked = true
+            marked = marked or slot
             marks[#marks + 1] = slot
         end
     end
@@ -108,8 +108,8 @@ end
 local function why_ended(k, frames, marked, message)
     local damaged = message and message.how == "damaged"
     k.damaged = damaged and k.damaged + 1 or 0
-    return not frames and "no multiframe" or marked and "wrong MSI twice" or k.damaged == 3 and "three damaged messages"
-        or message.how == "base lost" and "base lost" or nil
+    return not frames and "no multiframe" or marked and "MSI of slot " .. marked .. " wrong twice"
+        or k.damaged == 3 and "3 messages damaged" or message.how == "base lost" and "base lost" or nil
 end
 
 -- One turn of a sink. frames: the S frames as text, or nil where the turn has no multiframe. Answers what there is to
@@ -118,7 +118,7 @@ local function take_turn(k, frames, expected)
     k.turn = k.turn + 1
     local shown = { port = k.port, slots = k.slots, turn = k.turn, marks = {} }
     local fresh = k.state ~= "up"
-    local marked, message = false, nil
+    local marked, message
     if frames then
         marked = see_msi(k, frames, expected, shown.marks)
         message = message_of(k, frames, not fresh and k.C or nil)
