@@ -431,12 +431,11 @@ def _offsets(runs: Tuple[Run, ...]) -> Sequence[int]:
 
 def _joined(offsets: Sequence[int]) -> Tuple[Run, ...]:
     """Bytes of a frame, rising, as runs."""
-    found: List[Run] = []
-    for number, x in enumerate(offsets):
-        if found and found[-1].stop == x:
-            found[-1] = Run(found[-1].start, x + 1, 1, found[-1].first)
-        else:
-            found.append(Run(x, x + 1, 1, number))
+    found, first = [], 0
+    for number in range(1, len(offsets) + 1):
+        if number == len(offsets) or offsets[number] != offsets[number - 1] + 1:
+            found.append(Run(offsets[first], offsets[number - 1] + 1, 1, first))
+            first = number
     return tuple(found)
 
 
