@@ -27,12 +27,16 @@ def leave(needs):
     sys.exit(LEFT_OUT)
 
 
+def path_of(name):
+    """Where a built program is: what OTN= (or OTN_VIEW=, ..) names, else where `rt run` builds it."""
+    return pathlib.Path(os.environ.get(name.upper(), TOP / "crates" / name / "out" / name)).resolve()
+
+
 def program(name):
-    """A built program: the one that OTN= (or OTN_VIEW=, ..) names, else where `rt run` builds it."""
-    path = pathlib.Path(os.environ.get(name.upper(), TOP / "crates" / name / "out" / name)).resolve()
-    if not path.exists():
+    """A built program; where it is not there the check is left out."""
+    if not path_of(name).exists():
         leave(name)
-    return path
+    return path_of(name)
 
 
 def has_tool(tool, what):
@@ -70,16 +74,20 @@ def wanted_of(case):
     return {name: it for name, it in files.items() if it}, {line[66:]: line[:64] for line in sums.splitlines()}
 
 
+def program_of(case):
+    """The name of the program that runs a case."""
+    return "hostile_ports" if (case / "ports.txt").exists() else "otn"
+
+
 def left_by(case, here):
     """What the program leaves of a case in the folder `here`: its files by name, but for the empty ones."""
     if (case / "in").exists():
         shutil.copytree(case / "in", here)
     else:
         here.mkdir()
-    hostile = (case / "ports.txt").exists()
-    if hostile:
+    if (case / "ports.txt").exists():
         shutil.copy(case / "ports.txt", here)
-    words = [str(program("hostile_ports" if hostile else "otn")), *words_of(case)]
+    words = [str(program(program_of(case))), *words_of(case)]
     try:
         done = subprocess.run(words, cwd=here, capture_output=True, timeout=SECONDS)
     except subprocess.TimeoutExpired:
