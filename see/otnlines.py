@@ -343,6 +343,14 @@ def from_plan(path, side, number):
     return s, number in plan.get(f'scrambled-{side}', []), out
 
 
+def require_fas(path):
+    """Ends where no frame of the first 32, nor what comes before the first is whole, begins with the FAS."""
+    with open(path, 'rb') as file:
+        data = file.read(32 * FRAME)
+    if data and not any(data.startswith(FAS, x) for x in range(0, len(data), FRAME)):
+        raise SystemExit(f'{path}: no FAS in its first frames: it is no line file, or does not begin at a frame')
+
+
 def from_words(words, *switches, seen=None):
     """The line that the words of a command name, and which of the switches stand in them."""
     signal.signal(signal.SIGPIPE, signal.SIG_DFL)     # as where `head` has seen enough
@@ -361,6 +369,7 @@ def from_words(words, *switches, seen=None):
         with open(a.plan) as file:
             plan = file.read(), side, number
     try:
+        require_fas(a.line)
         line = Line.read(a.line, *given, seen)
     except OSError as fault:
         raise SystemExit(f'{a.line}: {fault.strerror}')
