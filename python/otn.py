@@ -521,6 +521,11 @@ def _self_test() -> int:
     """Tries the examples in this file."""
     import doctest
 
+    try:
+        _library()
+    except OSError as why:
+        print(f"otn.py: {why}", file=sys.stderr)
+        return 1
     failed, tried = doctest.testmod()
     print(f"{tried - failed} passed, {failed} failed")
     return 1 if failed or not tried else 0
