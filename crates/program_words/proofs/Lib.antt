@@ -1,1 +1,2 @@
 pub mod FileLists
+mod WordTexts

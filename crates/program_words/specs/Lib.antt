@@ -2,4 +2,5 @@ pub mod Files
 pub mod Given
 pub mod Opened
 pub mod Pages
+pub mod PlanFile
 pub mod Ports

@@ -12,12 +12,12 @@ use std::test::Fail;
 // A program that was called with these words after its name. One of more than five bytes is too long.
 #[derive(Drop)]
 struct Called {
-    words: [&'static [u8]; 4],
+    words: [&'static [u8]; 5],
 }
 
 impl Env for Called {
     fn arg(&self, i: usize, buf: &mut [u8]) -> Result<usize, FillError> {
-        if i == 0 || i > 4 {
+        if i == 0 || i > 5 {
             return Err(FillError::NotPresent);
         }
         let word = self.words[i - 1];
@@ -40,11 +40,11 @@ impl Env for Called {
 #[test]
 fn all_words_are_taken_up(rt: HostRuntime) -> Result<(), Fail> {
     let called = Called {
-        words: [b"pull", b"too long", b"\xFF", b"3"],
+        words: [b"pull", b"too long", b"\xFF", b"", b"3"],
     };
     let words = given_words(&called, rt.alloc())?;
-    assert_eq!(rt; words.len(), 4);
-    for (word, want) in words.iter().zip(["pull", "", "", "3"]) {
+    assert_eq!(rt; words.len(), 5);
+    for (word, want) in words.iter().zip(["pull", "", "", "", "3"]) {
         assert_eq!(rt; word.as_str(), want);
     }
     Ok(())
