@@ -7,20 +7,19 @@
 //! on it.
 #![tactic(auto)]
 
-ghost use Rattle.std.specs.Prelude.{◌≡◌};
-ghost use Rattle.otn_view.specs.Answers.{viewed_status};
-
-use command_base::{Status, status_of};
-use line_view::write_view;
+use answered::answer;
+use command_base::Status;
+use opened::{line_of, plan_name};
 use otn_base::Memory;
-use otn_ports::{FileSource, InPlaceOf, ReadBlock, Sink, Source, StdoutSink};
-use plan_views::{Side, Viewed, view_by_plan};
+use otn_ports::{FileSource, StdoutSink};
 use program_words::{exit_code, given_words, status_of_page};
-use std::alloc::Global;
 use std::fs;
+use std::fs::File;
 use std::process::ExitCode;
 use words::{Asked, asked_of};
 
+mod answered;
+mod opened;
 mod tributary;
 mod words;
 
@@ -60,35 +59,16 @@ fn serve(rt: &HostRuntime) -> Result<Status, Memory> {
     let Some(asked) = asked_of(rt.alloc(), &words)? else {
         return Ok(Status::Words);
     };
-    let file = fs::open(rt, words[0].as_str()).ok();
-    let mut source = FileSource::of(file);
-    source.read_by_blocks(rt.alloc(), ReadBlock::Frames);
-    let mut line = InPlaceOf::Live(source, 0);
+    let mut line = line_of(rt.alloc(), fs::open(rt, words[0].as_str()).ok());
+    let mut plan = FileSource::of(plan_file(rt, &asked));
     let mut report = StdoutSink::of(rt.stdout());
-    match asked {
-        Asked::Given(kind, scrambled, shown) => Ok(status_of(write_view(
-            rt.alloc(),
-            kind,
-            scrambled,
-            shown.as_slice(),
-            &mut line,
-            &mut report,
-        ))),
-        Asked::Planned(side, number) => {
-            let mut plan = FileSource::of(fs::open(rt, "plan.toml").ok());
-            let viewed = view_by_plan(rt.alloc(), &mut plan, side, number, &mut line, &mut report)?;
-            Ok(status_of_view(viewed))
-        }
-    }
+    answer(rt.alloc(), &asked, &mut plan, &mut line, &mut report)
 }
 
-// The answer of the program to a view by a plan that ended so.
-fn status_of_view(viewed: Viewed) -> Status
-    ensures { result ≡ viewed_status viewed }
-{
-    match viewed {
-        Viewed::Shown(ended) => status_of(ended),
-        Viewed::Refused(error, place) => Status::Plan(error, place),
-        Viewed::PlanFault => Status::PlanFault,
+// The file of the plan, where it is asked for and can be opened.
+fn plan_file(rt: &HostRuntime, asked: &Asked) -> Option<File> {
+    match asked {
+        Asked::Given(..) => None,
+        Asked::Planned(..) => fs::open(rt, plan_name()).ok(),
     }
 }
