@@ -63,7 +63,7 @@ def hostile(otn, folder):
     node.mkdir()
     packets = [EVIL.encode(), END.encode(), bytes(12) + b'\x08\x00' + EVIL.encode(), b'<script>hacked()</script>']
     (node / 'client-00.in').write_text('\n'.join(p.hex() for p in packets) + '\n')
-    (node / 'plan.toml').write_text('turns = 16\n' + connection('good', '{ client = 0 }', place(1, 1), 'trace = "<b id=evil>"'))
+    (node / 'plan.toml').write_text('turns = 40\n' + connection('good', '{ client = 0 }', place(1, 1), 'trace = "<b id=evil>"'))
     run(otn, node)
     data = bytearray((node / 'line-0.out').read_bytes())
     for frame in range(len(data) // FRAME):

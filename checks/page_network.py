@@ -79,7 +79,7 @@ def use(tell, page):
     click(page, '#fibres [data-place="4.1"]')
     name = text(page, '#fibres [data-place="4.1"]')
     words = text(page, '#chosen')
-    tell('a click on a slot', f'slot 1{name}' in words and 'and no slot' in words)
+    tell('a click on a slot', text(page, '#chosen h2').endswith('slot 1') and name in words and 'and no slot' in words)
     click(page, '#customers tbody tr:nth-child(1)')
     base = page.run('otn.chosen.base')
     tell('a click on a customer', text(page, '#chosen h2') == base)

@@ -59,13 +59,12 @@ def text(page, selector):
     return page.run(f'document.querySelector({selector!r}).textContent')
 
 
-def search(page, words, times=1):
+def search(page, words):
     """Types words into the search, by its key, and Enter; answers what the page says of it."""
     page.run('document.activeElement.blur(); document.querySelector("#find").value = ""')
     press(page, '/')
     page.type(words)
-    for _ in range(times):
-        press(page, 'Enter')
+    press(page, 'Enter')
     said = text(page, '#found')
     press(page, 'Escape')
     return said
@@ -146,7 +145,7 @@ def by_mouse(tell, page):
     page.drag(first + width - 102, top + 10, first + (width - 102) / 2, top + 10)
     tell('an edge of the window moves', 14 < page.run('otn.state.to') < 17)
     press(page, '0')
-    page.click(first + 2.5 * wide, top + 195)
+    page.click(first + 2.5 * wide, top + 126)
     tell('a click on a slot chooses its customer', page.run('otn.line.tributaries[otn.state.tributary].name') == 'north')
     for button, then in (('#turn-next', 3), ('#turn-before', 2)):
         click(page, button)
@@ -175,7 +174,8 @@ def by_search(tell, page):
     tell('search: an address', said == f'1 of 1: packet of turn {page.run("otn.line.packets.turn[9]")}' and state(page, 'packet') == 9)
     tell('the packet is shown', address in text(page, '#packet') and '0000  ' in text(page, '#packet pre'))
     tell('search: words of an event', 'event of turn 13' in search(page, 'multiframe lost'))
-    tell('search: the next one', search(page, 'multiframe lost', 2).startswith('2 of 2: event of turn 2'))
+    tell('search: the next one', search(page, 'multiframe lost').startswith('2 of 2: event of turn 2'))
+    tell('search: and the first one again', search(page, 'multiframe lost').startswith('1 of 2'))
     tell('search: nothing', search(page, 'no such words').startswith('nothing has') and search(page, '') == '')
 
 

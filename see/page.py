@@ -38,6 +38,7 @@ def packed(parts):
 def page(title, body, styles, scripts, about, parts=None):
     """The text of a page: a title that is ours, names of files in page/, and its data."""
     places, data = packed(parts or {})
+    held = f'<script type="text/plain" id="data">{data}</script>\n' if parts else ''
     style = joined(styles)
     script = "(() => {\n'use strict';\n" + joined(scripts) + '})();\n'
     policy = f"default-src 'none'; script-src {digest(script)}; style-src {digest(style)}; base-uri 'none'; " \
@@ -53,8 +54,7 @@ def page(title, body, styles, scripts, about, parts=None):
 </head>
 <body>
 {joined([body])}<script type="application/json" id="about">{as_json({**about, 'parts': places})}</script>
-<script type="text/plain" id="data">{data}</script>
-<script>{script}</script>
+{held}<script>{script}</script>
 </body>
 </html>
 '''

@@ -1,5 +1,6 @@
 """Where the sites of a network stand in its map: sites that fibres join stand at a like distance, so that a ring of sites
-is a ring. The map is made by stress majorization: distances in the map come near to the fibres of a shortest way.
+is a ring. The map is made by stress majorization: distances in the map come near to the fibres of a shortest way, near
+ones before far ones.
 
 One is the length of a fibre; x goes to the right, y down.
 """
@@ -67,7 +68,7 @@ def settle(place, far, fixed):
                 if not d:
                     continue
                 dx, dy = place[a][0] - bx, place[a][1] - by
-                r, w = math.hypot(dx, dy) or 1e-6, 1.0 / d ** 2
+                r, w = math.hypot(dx, dy) or 1e-6, 1.0 / d ** 4
                 weight, x, y = weight + w, x + w * (bx + d * dx / r), y + w * (by + d * dy / r)
             if weight:
                 place[a] = x / weight, y / weight
