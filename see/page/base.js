@@ -99,15 +99,34 @@ function themes(button, redraw) {
   readColours();
 }
 
-// A canvas of this height, clear, for drawing in CSS pixels. Answers its context and its width.
-function fresh(canvas, height) {
-  const scale = window.devicePixelRatio || 1, width = canvas.clientWidth;
+// A canvas of this size, clear, for drawing in CSS pixels. Answers its context.
+function sheet(canvas, width, height) {
+  const scale = window.devicePixelRatio || 1;
   canvas.width = Math.round(width * scale);
   canvas.height = Math.round(height * scale);
-  canvas.style.height = `${height}px`;
   const g = canvas.getContext('2d');
   g.setTransform(scale, 0, 0, scale, 0, 0);
-  return [g, width];
+  return g;
+}
+
+// The same of a canvas of the page, as wide as it is there. Answers its context and its width.
+function fresh(canvas, height) {
+  const width = canvas.clientWidth;
+  canvas.style.height = `${height}px`;
+  return [sheet(canvas, width, height), width];
+}
+
+// A drawing that is kept while nothing changes that `key` names: what is drawn once is copied from then on.
+const drawings = new Map();
+
+function drawnOnce(name, key, width, height, draw) {
+  const all = [key, width, height, look.ink, window.devicePixelRatio].join(' ');
+  if (!drawings.has(name) || drawings.get(name).all !== all) {
+    const canvas = el('canvas');
+    draw(sheet(canvas, width, height));
+    drawings.set(name, {all, canvas});
+  }
+  return drawings.get(name).canvas;
 }
 
 // ---- what is said

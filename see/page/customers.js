@@ -79,11 +79,21 @@ function customerCard(t) {
 // The sink over time, as a ribbon, with the chosen turn.
 function drawRibbon(canvas, t) {
   const [g, width] = fresh(canvas, 12), x = i => i / line.turns * width;
+  if (width === 0) return;
+  const ribbon = drawnOnce(`ribbon ${t.number}`, state.proved, width, 12, sheet => drawSink(sheet, t, width, x));
+  g.drawImage(ribbon, 0, 0, width, 12);
+  g.strokeStyle = look.ink;
+  g.lineWidth = 1.5;
+  g.strokeRect(clamp(x(state.turn), 1, width - 4), .75, Math.max(3, x(1)), 10.5);
+}
+
+function drawSink(g, t, width, x) {
+  const first = t.start - 1, end = first + t.turns;
   g.fillStyle = look.pale;
   g.fillRect(0, 2, width, 8);
-  for (const column of columnsOf(t.start - 1, t.start - 1 + t.turns, x)) {
+  for (const column of columnsOf(first, end, x)) {
     let worst = null;
-    for (let i = Math.max(column.i, t.start - 1); i < Math.min(column.end, t.start - 1 + t.turns); i++) {
+    for (let i = Math.max(column.i, first); i < Math.min(column.end, end); i++) {
       const cell = cellOfTurn(t.message, i);
       if (cell.owner === t.number && (!worst || cell.rank < worst.rank)) worst = cell;
     }
@@ -93,9 +103,6 @@ function drawRibbon(canvas, t) {
     g.fillRect(column.x, 2, Math.max(1, x(column.end) - column.x), 8);
     g.globalAlpha = 1;
   }
-  g.strokeStyle = look.ink;
-  g.lineWidth = 1.5;
-  g.strokeRect(clamp(x(state.turn), 1, width - 4), .75, Math.max(3, x(1)), 10.5);
 }
 
 function ribbonFill(g, cell) {

@@ -1,7 +1,7 @@
 // The drawing of the line by turns: the whole line with its window, the multiframes, a lane for each kind of damage,
 // and slots (slots.js). Where turns are narrower than a few pixels a column is of several, and shows the worst of them.
 
-const LEFT = 92, RIGHT = 10, LANE_STEP = 11, NARROWEST = 3;
+const LEFT = 92, RIGHT = 10, LANE_STEP = 11, NARROWEST = 3, FRAMES_SEEN = 90;
 const LANES = [
   {name: 'FAS', told: true, of: i => turnNumber(i, 'fas')},
   {name: 'MFAS', told: false, of: i => turnNumber(i, 'mfas')},
@@ -72,21 +72,36 @@ function sumOf(column, of) {
 function drawLine() {
   const h = heights(), [g, width] = fresh($('line'), h.all);
   drawing.width = width;
+  if (width <= LEFT + RIGHT) return;
+  const key = [state.from, state.to, state.proved].join(' ');
+  g.drawImage(drawnOnce('line', key, width, h.all, sheet => drawPart(sheet, h)), 0, 0, width, h.all);
+  inside(g, h, () => drawChosen(g, h));
+  sayChosen();
+}
+
+// All but what is chosen.
+function drawPart(g, h) {
   drawing.columns = columnsOf(state.from, state.to, xOf);
   g.font = FONT;
   g.textBaseline = 'middle';
   drawWhole(g, h);
+  inside(g, h, () => {
+    drawAlignment(g, h);
+    drawLanes(g, h);
+    drawSlots(g, h);
+    drawFrameLines(g, h);
+  });
+  drawWords(g, h);
+}
+
+// Draws below the whole line, and not beside the turns.
+function inside(g, h, draw) {
   g.save();
   g.beginPath();
-  g.rect(LEFT, h.align, inner(), h.all);
+  g.rect(LEFT, h.align - 3, inner(), h.all);
   g.clip();
-  drawAlignment(g, h);
-  drawLanes(g, h);
-  drawSlots(g, h);
-  drawChosen(g, h);
+  draw();
   g.restore();
-  drawWords(g, h);
-  sayChosen();
 }
 
 // The whole line, and the window of the part that is shown below.
@@ -137,21 +152,27 @@ function drawLanes(g, h) {
   });
 }
 
+// Where turns are wide, lines between their frames.
+function drawFrameLines(g, h) {
+  const wide = xOf(1) - xOf(0);
+  if (wide <= FRAMES_SEEN) return;
+  g.lineWidth = 1;
+  g.strokeStyle = look.grid;
+  g.beginPath();
+  for (const column of drawing.columns) {
+    for (let n = 1; n < line.slots; n++) {
+      const x = column.x + wide * n / line.slots;
+      g.moveTo(x, h.align);
+      g.lineTo(x, h.axis - 4);
+    }
+  }
+  g.stroke();
+}
+
 // The chosen turn, and its chosen frame where frames are wide enough to be seen.
 function drawChosen(g, h) {
   const x = xOf(state.turn), wide = Math.max(3, xOf(1) - xOf(0));
-  if (wide > 90) {
-    g.lineWidth = 1;
-    g.strokeStyle = look.grid;
-    for (const column of drawing.columns) {
-      for (let n = 1; n < line.slots; n++) {
-        const place = column.x + wide * n / line.slots;
-        g.beginPath();
-        g.moveTo(place, h.align);
-        g.lineTo(place, h.axis - 4);
-        g.stroke();
-      }
-    }
+  if (wide > FRAMES_SEEN) {
     const place = Math.max(0, line.framePlace[state.frame] || 0);
     g.globalAlpha = .22;
     g.fillStyle = look.blue;

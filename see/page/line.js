@@ -50,8 +50,22 @@ async function start() {
   setProved(state.proved);
   window.addEventListener('resize', redraw);
   window.otn = {
-    ready: performance.now(), about, line, state, turnOf, turnNumbers, msiNumbers, heardOf, overhead, frameOf, packetBytes,
-    isData, find, goTurn, goFrame, setProved
+    ready: performance.now(),
+    about,
+    line,
+    state,
+    turnOf,
+    turnNumbers,
+    msiNumbers,
+    heardOf,
+    overhead,
+    frameOf,
+    packetBytes,
+    isData,
+    find,
+    goTurn,
+    goFrame,
+    setProved
   };
 }
 

@@ -31,15 +31,14 @@ function makePackets() {
 
 // Which packets the page has, in words.
 function keptWords() {
-  const {all, budget, bytes, packets, turns} = about.kept;
+  const {all, budget, bytes, packets, turns} = about.kept, some = line.packets.count;
   if (all === 0) return 'No packet ended on this line.';
   const whole = bytes >= 65536 ? 'whole' : `the first ${bytes} bytes of each`;
-  if (line.packets.count === all)
-    return `All ${grouped(all)} packets are in the page, ${whole}. Its budget for packets is ${bytesText(budget)}.`;
-  const which = packets >= 65536 ? '' : `of each turn and customer the first${packets > 1 ? ` ${packets}` : ''}`;
-  const apart = turns > 1 ? `, of one turn in ${turns}` : '';
-  return `${grouped(line.packets.count)} of ${grouped(all)} packets are in the page: ${which}${apart}, ${
-    whole}. Its budget for packets is ${bytesText(budget)}. All are counted.`;
+  const room = `Its budget for packets is ${budget / 1000000} MB.`;
+  if (some === all) return `All ${grouped(all)} packets are in the page, ${whole}. ${room}`;
+  const first = packets >= 65536 ? '' : `of each turn and customer the first${packets > 1 ? ` ${packets}` : ''}`;
+  const which = [first, turns > 1 ? `of one turn in ${turns}` : '', whole].filter(Boolean).join(', ');
+  return `${grouped(some)} of ${grouped(all)} packets are in the page: ${which}. ${room} All are counted.`;
 }
 
 // The packets of the chosen customer and turn.

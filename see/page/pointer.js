@@ -82,7 +82,7 @@ function chooseAt(x, y) {
     state.what = null;
   }
   const slot = owner >= 0 ? line.tributaries[owner].message : k || 1;
-  goTurn(i, wide > 90 ? Math.floor((x - xOf(i)) / wide * line.slots) + 1 : slot);
+  goTurn(i, wide > FRAMES_SEEN ? Math.floor((x - xOf(i)) / wide * line.slots) + 1 : slot);
 }
 
 // The slot at a height, from 1, or 0.
