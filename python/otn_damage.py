@@ -23,6 +23,7 @@ WHAT, the whole frame without it:
     jc    cnd    msi          of all slots: JC1 to JC3, JC4 to JC6, the MSI bytes
     jc of slot 3    payload of slots 2,4    msi of port 2    payload of customer north
     any of port 2             all places that it has: payload, jc, cnd and msi
+    odu fas of port 2         of the client frames that it carries; likewise odu mfas, odu tti, odu bip8, odu stat, odu psi
     row 3 column 10    row 1 columns 10-14
     any but any of port 2 but mfas    payload but payload of slot 3
 
@@ -30,7 +31,8 @@ HOW:
 
     xor 01           each byte of it; more bytes than one are laid over it again and again
     set ff           likewise
-    stat AIS         (or LCK, OCI) in the place of WHAT and HOW: the last three bits of the status byte
+    stat AIS         (or LCK, OCI) in the place of WHAT and HOW: the last three bits of the status byte, which `otn`
+                     does not look at; "stat AIS of port 2" those of its client frames, which it does
     ber 1e-4         each bit of it by chance
     burst 40 bits    in each run of frames 40 bits, of which the first and the last are wrong, and others by chance
     slip +3 bytes    before the first byte of each run three bytes come in; -3: three are missing
@@ -62,7 +64,7 @@ FEW = 32  # runs of a place that are written one by one
 
 _WHERE = r"(?:(?P<base>frame|turn)s? (?P<first>\d+)(?P<to>-(?P<last>\d*))? )?" \
     r"(?:every (?P<every>\d+) (?P<unit>frame|turn)s? )?(?:some (?P<some>\d+) frames? )?"
-_HOW = r"(?:(?P<name>xor|set) (?P<hex>(?:[0-9a-fA-F]{2})+)|stat (?P<signal>AIS|LCK|OCI)|ber (?P<rate>[0-9.eE+-]+)" \
+_HOW = r"(?:(?P<name>xor|set) (?P<hex>(?:[0-9a-fA-F]{2})+)|stat (?P<signal>AIS|LCK|OCI)(?: of (?P<whose>.+))?|ber (?P<rate>[0-9.eE+-]+)" \
     r"|burst (?P<bits>\d+) bits?|slip (?P<slip>[+-]\d+) bytes?|(?P<noise>noise)|(?P<alone>drop|repeat|ais))"
 _DAMAGE = re.compile(rf"{_WHERE}(?:(?P<what>[a-z].*?) )?{_HOW}")
 _CHANGE = re.compile(r"frame (\d+) byte (\d+)(?: step (\d+))? from ([0-9a-f]+|-) to ([0-9a-f]+|-)")
@@ -229,7 +231,9 @@ class _Step:
             raise ValueError(f"no damage: {words!r} (WHERE WHAT HOW, as `otn-damage --help` says)")
         self.words, self.line, self.dice, self.said = words, line, dice, found.groupdict()
         self.how = next(it for it in ("name", "signal", "rate", "bits", "slip", "noise", "alone") if self.said[it])
-        self.what = "stat" if self.how == "signal" else self.said["what"]
+        self.what = self.said["what"]
+        if self.how == "signal":
+            self.what = f"odu stat of {self.said['whose']}" if self.said["whose"] else "stat"
         if self.what and (self.how == "alone" or self.how == "signal" and self.said["what"]):
             raise ValueError(f"{words!r}: only whole frames are lost, repeated or all ones")
         if fix_parity and (self.how == "slip" or self.said["alone"] == "ais"):

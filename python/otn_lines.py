@@ -19,6 +19,8 @@ import re
 from dataclasses import dataclass
 from typing import TYPE_CHECKING, Any, Dict, Iterator, List, Mapping, Optional, Sequence, Tuple, Union
 
+import otn_clients
+
 if TYPE_CHECKING:
     import numpy
 
@@ -311,7 +313,8 @@ class Line:
     def places(self, name: str) -> List[Place]:
         """The places of a name, as `otn.damage` says it: "sm bip8", "jc of port 2", "payload of slots 4,5",
         "msi of customer north", "row 3 columns 10-12". "any of port 2" are all places that this tributary has, and
-        "any but any of port 2 but mfas" is the frame without these and without MFAS.
+        "any but any of port 2 but mfas" is the frame without these and without MFAS. "odu stat of port 2" are the status
+        bytes of the client frames that the tributary carries.
 
         >>> import otn
         >>> otn.lines.Line(b"").places("jc of slot 3")[0]
@@ -322,6 +325,8 @@ Run(start=8175, stop=8176, step=1, first=2, stride=1)), mfas=(2,), modulus=8, tu
         if " but " in name:
             return self._without(name, *name.split(" but "))
         what, _, whose = name.partition(" of ")
+        if what in otn_clients.PLACES:
+            return self._places_of_client(name, otn_clients.PLACES[what], whose)
         if what == "any" and whose:
             parts = [f"{one} of {whose}" for one in ("payload", *JUSTIFICATION)]
             return [place for part in parts for place in self.places(part)]
@@ -350,13 +355,26 @@ Run(start=8175, stop=8176, step=1, first=2, stride=1)), mfas=(2,), modulus=8, tu
             if not 1 <= slots[0] <= slots[-1] <= self.slots:
                 raise ValueError(f"the line has slots 1 to {self.slots}: {name!r}")
             return [self._place(name, what, slots, slots, None)]
-        if kind == "port" and value.isdigit():
-            found = self.of_port(int(value))
-        elif kind == "customer" and value:
-            found = self.of_name(value)
-        else:
-            raise ValueError(f"slot K, slots K,K, port P or customer NAME, and not {whose!r}")
+        found = self.of(whose)
         return [self._place(name, what, t.slots, t.slots[-1:], None if t.stop >> 62 else (t.start, t.stop)) for t in found]
+
+    def of(self, whose: str) -> List[Tributary]:
+        """The tributaries of "port 2" or "customer north"."""
+        kind, _, value = whose.partition(" ")
+        if kind == "port" and value.isdigit():
+            return self.of_port(int(value))
+        if kind == "customer" and value:
+            return self.of_name(value)
+        raise ValueError(f"slot K, slots K,K, port P or customer NAME, and not {whose!r}")
+
+    def _places_of_client(self, name: str, offsets: range, whose: str) -> List[Place]:
+        """Bytes of client frames: a place for each frame of the line in which some of them stand."""
+        found: Dict[int, List[int]] = {}
+        for tributary in self.of(whose):
+            for client in otn_clients.frames_of(self, tributary):
+                for byte in client[offsets.start : offsets.stop]:
+                    found.setdefault(byte // FRAME, []).append(byte % FRAME)
+        return [Place(name, _joined(sorted(it)), frames=(f,)) for f, it in sorted(found.items())]
 
     def _place(
         self, name: str, what: str, slots: Sequence[int], said: Sequence[int], turns: Optional[Tuple[int, int]]
