@@ -41,6 +41,7 @@ use Rattle.check_command.proofs.PlanChecks.{same_plan}
 use Rattle.run_command.specs.RunAnswers.{PlanRan, RunAnswers, outcome_status}
 use Rattle.run_command.specs.RunCalls.{CarriesPlan}
 use Rattle.run_command.proofs.RunCalls.{accepted_plan, run_carries, same_answer}
+use Rattle.run_command.proofs.SeenCalls.{all_read, ran_of}
 use Rattle.command_words.specs.declared.words.Command.TheVariants as command
 use Rattle.line_tool.specs.TrialRuns.{waiting}
 use Rattle.otn_c.specs.Blocks.{part_of, words_said}
@@ -94,16 +95,6 @@ pub run_answers : (words : List (List ℕ)) (plan : List ℕ) (first last : Bays
 run_answers words plan first last report report_now answer is (inl form) = is.answers command.Run form
 run_answers words plan first last report report_now answer is (inr (inl (number, form))) = is.answers (command.RunOrdered number) form
 run_answers words plan first last report report_now answer is (inr (inr form)) = is.answers command.RunCaptures form
-
-all_read : (answer : Status) (text : List ℕ) (old new : SourceView) → CarriesPlan answer → WasRead answer text old new → IsAll text new
-all_read status.Done text old new c read = read
-all_read status.Unfinished text old new c read = read
-all_read status.Cut text old new c read = read
-all_read status.ReportFault text old new c read = read
-all_read status.Words text old new c read = absurd c
-all_read (status.Plan error place) text old new c read = absurd c
-all_read status.PlanFault text old new c read = absurd c
-all_read status.Memory text old new c read = absurd c
 
 plan_ran : (answer : Status) (old new : Device) (asked now : ℕ) (plan : Plan) → (answers : RunAnswers old new asked now answer) → CarriesPlan answer → plan_of_text answers.text ≡ Ok plan
     → PlanRan plan old new asked now answer
@@ -322,18 +313,7 @@ module _ (call : Call) (c : CallOf call) (k : Carrying call c) (is_plan : plan_o
 
   is_run_here : IsRunOf call (record { plan = call.plan; before = c.first; after = c.last })
   is_run_here = record {
-    ran = record {
-      old = device_first call c;
-      new = device_last call c k.left;
-      asked = 0;
-      asked_now = k.asked;
-      reply = c.answer;
-      answers = k.answers;
-      carries = k.carried;
-      is_plan = k.same_text ∙ is_plan;
-      was = refl;
-      is = refl;
-    };
+    ran = ran_of call.plan c.answer (device_first call c) (device_last call c k.left) 0 k.asked k.answers k.carried (k.same_text ∙ is_plan);
     carries = refl;
     line_in = λ x a number slots has from. record { available = input_of call a; had = line_gave x a number slots has from; frames = refl };
     client_in = λ x n has from.

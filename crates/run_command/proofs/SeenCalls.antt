@@ -1,7 +1,8 @@
 -- The headline, by what is seen of the places before and after a call.
-use Rattle.std.proofs.Common.{◌≡◌, ℕ, false, refl, subst}
+use Rattle.std.proofs.Common.{◌≡◌, ℕ, false, List, Ok, ap, ◌∙◌, refl, subst}
 use Rattle.std.specs.List.{Contains}
 use Rattle.otn_base.specs.declared.kind.PortName.{PortName}
+use Rattle.otn_ports.specs.PortViews.{SourceView}
 use Rattle.plan_file.specs.Answer.{plan_of_text}
 use Rattle.plan_file.specs.declared.connection.Connection.{Connection}
 use Rattle.plan_file.specs.declared.plan.Plan.{Plan}
@@ -10,27 +11,61 @@ use Rattle.device_model.specs.RunLeft.{RunLeft, SamePlace}
 use Rattle.run_laws.specs.SeenRuns.{Run, IsRun, ShareInput, SameOutput, ShareInputUpTo, SameOutputUpTo, PutThrough, CarriesOver}
 use Rattle.run_laws.proofs.SeenRuns.{seen_alike, not_ahead as seen_not_ahead, puts_through, carries_over}
 use Rattle.command_base.specs.Device.{Device}
+use Rattle.check_command.specs.PlanReading.{IsAll, WasRead}
 use Rattle.run_command.specs.Headline.{Ran}
 use Rattle.run_command.specs.RunAnswers.{PlanRan, RunAnswers}
 use Rattle.run_command.specs.RunCalls.{CarriesPlan}
 use Rattle.command_base.specs.declared.status.Status.{Status}
+use Rattle.command_base.specs.declared.status.Status.TheVariants as status
 use Rattle.run_command.proofs.RunCalls.{accepted_plan, run_carries, same_answer}
 
 -- ---- a call of a plan
 
-pub of_a_plan : (reply : Status) (old new : Device) (asked now : ℕ) → RunAnswers old new asked now reply → CarriesPlan reply → (plan : Plan) × Ran (record { plan = plan; before = old.bays; after = new.bays })
+-- all of the source was read
+pub all_read : (reply : Status) (text : List ℕ) (old new : SourceView) → CarriesPlan reply → WasRead reply text old new → IsAll text new
+all_read status.Done text old new carries was = was
+all_read status.Unfinished text old new carries was = was
+all_read status.Cut text old new carries was = was
+all_read status.ReportFault text old new carries was = was
+all_read status.Words text old new carries was = absurd carries
+all_read status.PlanFault text old new carries was = absurd carries
+all_read (status.Plan error place) text old new carries was = absurd carries
+all_read status.Memory text old new carries was = absurd carries
+
+-- a call of the plan of the text that it read
+abbrev pub ran_of : (plan : Plan) (reply : Status) (old new : Device) (asked now : ℕ) → (answers : RunAnswers old new asked now reply) → CarriesPlan reply → plan_of_text answers.text ≡ Ok plan
+    → Ran (record { plan = plan; before = old.bays; after = new.bays })
+ran_of plan reply old new asked now answers carries is_plan = record {
+  old = old;
+  new = new;
+  was = refl;
+  is = refl;
+  text = answers.text;
+  read = answers.read;
+  whole = all_read reply answers.text old.plan new.plan carries answers.all;
+  is_plan = is_plan;
+  reply = reply;
+  carries = carries;
+  asked = asked;
+  asked_now = now;
+  answers = answers;
+  of_text = refl;
+}
+
+pub of_a_plan : (reply : Status) (old new : Device) (asked now : ℕ) → RunAnswers old new asked now reply → CarriesPlan reply
+    → (plan : Plan) × (ran : Ran (record { plan = plan; before = old.bays; after = new.bays })) × (ran.old ≡ old) × (ran.new ≡ new)
 of_a_plan reply old new asked now answers carries =
     let r = run_carries reply old new asked now answers carries in
-    (r.0, record { old = old; new = new; asked = asked; asked_now = now; reply = reply; answers = answers; carries = carries; is_plan = r.2; was = refl; is = refl })
+    (r.0, ran_of r.0 reply old new asked now answers carries r.2, refl, refl)
 
 -- what it left
 pub left_by : (run : Run) (r : Ran run) → IsRun run
 left_by run r =
     let p = run_carries r.reply r.old r.new r.asked r.asked_now r.answers r.carries in
-    let same : p.0 ≡ run.plan = same_answer (plan_of_text r.answers.text) p.0 run.plan p.2 r.is_plan in
+    let same : p.0 ≡ run.plan = same_answer (plan_of_text r.answers.text) p.0 run.plan p.2 (ap plan_of_text r.of_text ∙ r.is_plan) in
     let ran : PlanRan run.plan r.old r.new r.asked r.asked_now r.reply = subst (λ plan. PlanRan plan r.old r.new r.asked r.asked_now r.reply) same p.1 in
     record {
-      accepted = accepted_plan r.answers.text run.plan r.is_plan;
+      accepted = accepted_plan r.text run.plan r.is_plan;
       takings = ran.takings;
       numbers = ran.numbers;
       left = subst (λ bays. RunLeft run.plan run.before bays ran.takings ran.numbers) r.is (subst (λ bays. RunLeft run.plan bays r.new.bays ran.takings ran.numbers) r.was ran.left);

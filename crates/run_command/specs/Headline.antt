@@ -1,8 +1,9 @@
 -- Believed: the headline, of each connection of a plan that `run` carried, by what is seen of the places before and
 -- after the call: no connection touches another, and where its bytes come unharmed they leave the same.
-use Rattle.std.specs.Prelude.{◌≡◌, ℕ, false, Ok}
+use Rattle.std.specs.Prelude.{◌≡◌, ℕ, false, List, Ok}
 use Rattle.std.specs.List.{Contains}
 use Rattle.otn_base.specs.declared.kind.PortName.{PortName}
+use Rattle.otn_ports.specs.Bytes.{before}
 use Rattle.plan_file.specs.Answer.{plan_of_text}
 use Rattle.plan_file.specs.declared.connection.Connection.{Connection}
 use Rattle.plan_file.specs.declared.plan.Plan.{Plan}
@@ -10,28 +11,38 @@ use Rattle.device_model.specs.Moments.{uses}
 use Rattle.device_model.specs.RunLeft.{SamePlace}
 use Rattle.run_laws.specs.SeenRuns.{Run, ShareInput, SameOutput, ShareInputUpTo, SameOutputUpTo, PutThrough, CarriesOver}
 use Rattle.command_base.specs.Device.{Device}
+use Rattle.check_command.specs.PlanReading.{IsAll}
 use Rattle.run_command.specs.RunAnswers.{RunAnswers}
 use Rattle.run_command.specs.RunCalls.{CarriesPlan}
 use Rattle.command_base.specs.declared.status.Status.{Status}
 
--- A call of `run` that carried this plan, over places that were seen so before it and after it. That it answered so is
--- `run`'s own clause `answers`, which all its calls meet: nothing here looks into it.
+-- A call of `run` that carried this plan, over places that were seen so before it and after it. The plan is what the
+-- text means that was read of its source, all of it. What else the call answers for (`answers`) is `run`'s own clause
+-- of that name, which all its calls meet: nothing here looks into it.
 pub record Ran (run : Run) : Type 0 where
   pub old : Device
   pub new : Device
-  pub asked : ℕ
-  pub asked_now : ℕ
-  pub reply : Status
-  pub answers : RunAnswers old new asked asked_now reply
-  pub carries : CarriesPlan reply
-  pub is_plan : plan_of_text answers.text ≡ Ok run.plan
   pub was : old.bays ≡ run.before
   pub is : new.bays ≡ run.after
+  -- the text of the plan
+  pub text : List ℕ
+  pub read : old.plan.left ≡ before text new.plan.left
+  pub whole : IsAll text new.plan
+  pub is_plan : plan_of_text text ≡ Ok run.plan
+  -- the answer, and all that is answered for
+  pub reply : Status
+  pub carries : CarriesPlan reply
+  pub asked : ℕ
+  pub asked_now : ℕ
+  pub answers : RunAnswers old new asked asked_now reply
+  pub of_text : answers.text ≡ text
 
--- Each call of `run` that answered Done, Unfinished, Cut or ReportFault is one, of some plan.
+-- Each call of `run` that answered Done, Unfinished, Cut or ReportFault is one, of the plan that the text means that
+-- was read of its source.
 abbrev pub IsOfAPlan : Type 0
 IsOfAPlan = (old new : Device) (asked now : ℕ) (reply : Status) → RunAnswers old new asked now reply → CarriesPlan reply
-    → (plan : Plan) × Ran (record { plan = plan; before = old.bays; after = new.bays })
+    → (plan : Plan) × (ran : Ran (record { plan = plan; before = old.bays; after = new.bays })) × (ran.old ≡ old)
+    × (ran.new ≡ new)
 
 -- Isolated: where two calls share a connection (with its stop and its lines' kinds), and agree on what it comes from,
 -- the same leaves on it as far as both have gone, whatever other connections, slots, ports, bytes, faults and orders
