@@ -132,8 +132,8 @@ uint32_t otn_version(void);
  * the whole command, so room that suffices at once saves half the time: a line output has as many bytes as the plan's
  * turns say, and a client output about twice as many as its packets.
  *
- * The code is OTN_NO_CALL where one of the three lists has not 20 members, `words` is no UTF-8, or an input ends before
- * it begins or behind `inputs_length`. */
+ * The code is OTN_NO_CALL exactly where one of the three lists has not 20 members, `words` is no UTF-8, or an input ends
+ * before it begins or behind `inputs_length`; but it is OTN_MEMORY where there was no memory to find that out. */
 uint32_t otn_run(const uint8_t *words, size_t words_length,
                  const uint8_t *plan, size_t plan_length,
                  const uint8_t *inputs, size_t inputs_length,

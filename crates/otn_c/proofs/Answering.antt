@@ -3,7 +3,7 @@ use Rattle.std.proofs.Common.{◌≡◌, ◌↔◌, ℕ, Bool, false, true, List
 use Rattle.otn_ports.specs.PortViews.{SourceView, SinkView}
 use Rattle.otn_ports.specs.Views.{BaysView}
 use Rattle.line_tool.specs.AnswerWords.{IsRefusal}
-use Rattle.line_tool.specs.Answers.{Answers}
+use Rattle.line_tool.specs.Answers.{Answers, LeavesBays}
 use Rattle.line_tool.specs.Words.{IsForm, IsNoForm}
 use Rattle.command_base.specs.declared.status.Status.{Status}
 use Rattle.command_base.specs.declared.status.Status.TheVariants as status
@@ -25,8 +25,9 @@ pub is_answered : (words : List (List ℕ)) (plan : List ℕ) (source left : Sou
     → source ≡ source_of plan → asked ≡ 0 → (answer ≡ status.Words) ↔ IsNoForm words
     → ((command : Command) → IsForm words command → Answers command (record { plan = source; bays = first; report = report }) (record { plan = left; bays = last; report = report_now }) asked now answer)
     → (IsRefusal answer → (last ≡ first) × (report_now ≡ report))
+    → ((command : Command) → IsForm words command → LeavesBays command → last ≡ first)
     → IsAnswered words plan first last report report_now answer
-is_answered words plan source left first last report report_now asked now answer is unasked form answers refused = record {
+is_answered words plan source left first last report report_now asked now answer is unasked form answers refused alone = record {
   form = form;
   answers = λ command h. (
     left,
@@ -35,4 +36,5 @@ is_answered words plan source left first last report report_now asked now answer
         (subst (λ n. Answers command (record { plan = source; bays = first; report = report }) (record { plan = left; bays = last; report = report_now }) n now answer) unasked (answers command h)),
   );
   refused = refused;
+  alone = alone;
 }

@@ -1,5 +1,5 @@
 -- Places that are filled one after another.
-use Rattle.std.proofs.Common.{◌≡◌, ◌≢◌, ◌≤◌, ◌<◌, ◌+◌, ◌⊎◌, inl, inr, ℕ, List, length, get_or, Some, sym, ap, ◌∙◌, subst, arith}
+use Rattle.std.proofs.Common.{◌≡◌, ◌≢◌, ◌≤◌, ◌<◌, ◌+◌, ◌-◌, ◌⊎◌, inl, inr, ℕ, List, length, get_or, Some, sym, ap, ◌∙◌, subst, arith}
 use Rattle.std.specs.Prelude.{slice_get}
 use Rattle.std.proofs.lemmas.Bool.{cases_lt}
 use Rattle.std.proofs.lemmas.Option.{slice_get-get_or}
@@ -16,7 +16,8 @@ use Rattle.otn_ports.specs.declared.out_place.OutPlaceOf.{OutPlaceOf}
 use Rattle.otn_ports.specs.declared.out_place.OutPlaceOf.TheVariants as output
 use Rattle.otn_ports.proofs.BaysLaws.{line_in_set, only_line_in, line_out_set, only_line_out, client_in_set, only_client_in, client_out_set, only_client_out}
 use Rattle.line_tool.specs.TrialRuns.{waiting}
-use Rattle.otn_c.specs.Places.{OpensWith, LinesUpTo, ClientsUpTo, input_at}
+use Rattle.otn_c.specs.Blocks.{IsNoPart}
+use Rattle.otn_c.specs.Places.{OpensWith, HasNoPart, LinesUpTo, ClientsUpTo, input_at}
 use Rattle.otn_c.specs.contracts.growing_sink.GrowingSinkSink.TheImpl as sink
 use Rattle.otn_c.specs.declared.growing_sink.GrowingSink.{GrowingSink}
 
@@ -43,9 +44,9 @@ extended P n before at m h = by_place (below_or_same m n h)
 
 pub next_line : (present block ends : List ℕ) (first : BaysView) (rack mid new : Rack SliceSource GrowingSink) (n : ℕ) (place : InPlaceOf SliceSource) (out : OutPlaceOf GrowingSink)
     → n < 4 → LinesUpTo present block ends n first (view rack)
-    → in_view source.ghosts place ≡ input_at present block ends n → out_view sink.ghosts out ≡ waiting
+    → in_view source.ghosts place ≡ input_at present block ends n → (IsNoPart block ends n → ⊥) → out_view sink.ghosts out ≡ waiting
     → mid ≡ with_line_in rack n place → new ≡ with_line_out mid n out → LinesUpTo present block ends (n + 1) first (view new)
-next_line present block ends first rack mid new n place out few before is got one two =
+next_line present block ends first rack mid new n place out few before is whole got one two =
     subst (λ r. LinesUpTo present block ends (n + 1) first (view r)) (sym (two ∙ ap (λ r. with_line_out r n out) one)) record {
       line_in = extended (λ a. line_in_at (view (with_line_in rack n place)) a ≡ input_at present block ends a) n
           (λ a less. (only_line_in source.ghosts sink.ghosts rack n place).line_in a (let other : a ≢ n = omega arith in other) ∙ before.line_in a less)
@@ -53,15 +54,16 @@ next_line present block ends first rack mid new n place out few before is got on
       line_out = extended (λ b. line_out_at (view (with_line_out (with_line_in rack n place) n out)) b ≡ waiting) n
           (λ b less. (only_line_out source.ghosts sink.ghosts (with_line_in rack n place) n out).line_out b (let other : b ≢ n = omega arith in other) ∙ before.line_out b less)
           (line_out_set source.ghosts sink.ghosts (with_line_in rack n place) n (get_or rack.line_out.items n output.Empty) out (some_place rack.line_out.items n output.Empty (let all = rack.all in let ok = rack.line_out.ok in omega arith)) ∙ got);
+      parts = extended (λ a. IsNoPart block ends a → ⊥) n before.parts whole;
       client_in = before.client_in;
       client_out = before.client_out;
     }
 
 pub next_client : (present block ends : List ℕ) (first : BaysView) (rack mid new : Rack SliceSource GrowingSink) (n : ℕ) (place : InPlaceOf SliceSource) (out : OutPlaceOf GrowingSink)
     → n < 16 → ClientsUpTo present block ends n first (view rack)
-    → in_view source.ghosts place ≡ input_at present block ends (4 + n) → out_view sink.ghosts out ≡ waiting
+    → in_view source.ghosts place ≡ input_at present block ends (4 + n) → (IsNoPart block ends (4 + n) → ⊥) → out_view sink.ghosts out ≡ waiting
     → mid ≡ with_client_in rack n place → new ≡ with_client_out mid n out → ClientsUpTo present block ends (n + 1) first (view new)
-next_client present block ends first rack mid new n place out few before is got one two =
+next_client present block ends first rack mid new n place out few before is whole got one two =
     subst (λ r. ClientsUpTo present block ends (n + 1) first (view r)) (sym (two ∙ ap (λ r. with_client_out r n out) one)) record {
       client_in = extended (λ a. client_in_at (view (with_client_in rack n place)) a ≡ input_at present block ends (4 + a)) n
           (λ a less. (only_client_in source.ghosts sink.ghosts rack n place).client_in a (let other : a ≢ n = omega arith in other) ∙ before.client_in a less)
@@ -69,9 +71,18 @@ next_client present block ends first rack mid new n place out few before is got 
       client_out = extended (λ b. client_out_at (view (with_client_out (with_client_in rack n place) n out)) b ≡ waiting) n
           (λ b less. (only_client_out source.ghosts sink.ghosts (with_client_in rack n place) n out).client_out b (let other : b ≢ n = omega arith in other) ∙ before.client_out b less)
           (client_out_set source.ghosts sink.ghosts (with_client_in rack n place) n (get_or rack.client_out.items n output.Empty) out (some_place rack.client_out.items n output.Empty (let all = rack.all in let ok = rack.client_out.ok in omega arith)) ∙ got);
+      parts = extended (λ m. IsNoPart block ends (4 + m) → ⊥) n before.parts whole;
       line_in = before.line_in;
       line_out = before.line_out;
     }
+
+-- every input is a part
+pub all_parts : (present block ends : List ℕ) (first mid last : BaysView) → LinesUpTo present block ends 4 first mid → ClientsUpTo present block ends 16 mid last → HasNoPart block ends → ⊥
+all_parts present block ends first mid last lines clients (n, few, none) = by_size (cases_lt n 4)
+  where
+    by_size : (n < 4) ⊎ (4 ≤ n) → ⊥
+    by_size (inl less) = lines.parts n less none
+    by_size (inr more) = clients.parts (n - 4) (omega arith) (subst (λ m. IsNoPart block ends m) (let same : n ≡ 4 + (n - 4) = omega arith in same) none)
 
 -- all lines, and then all clients
 pub opened : (present block ends : List ℕ) (first mid last : BaysView) → LinesUpTo present block ends 4 first mid → ClientsUpTo present block ends 16 mid last

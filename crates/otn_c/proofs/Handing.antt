@@ -1,5 +1,6 @@
 -- What is handed out, from what was put into the block.
 use Rattle.std.proofs.Common.{◌≡◌, ◌≤◌, ◌<◌, ◌⊎◌, ℕ, List, Some, length, take, refl, sym, ap, ◌∙◌, subst, arith}
+use Rattle.std.specs.Str.{IsUtf8}
 use Rattle.otn_ports.specs.PortViews.{SinkView}
 use Rattle.otn_ports.specs.Views.{BaysView}
 use Rattle.line_tool.specs.Codes.{code_of}
@@ -7,7 +8,7 @@ use Rattle.command_base.specs.declared.status.Status.{Status}
 use Rattle.command_base.specs.declared.status.Status.TheVariants as status
 use Rattle.otn_c.specs.Blocks.{words_said}
 use Rattle.otn_c.specs.Calls.{CallEnds, IsAnswered, IsHandedOut, Tells, fresh_sink}
-use Rattle.otn_c.specs.Places.{OpensWith, InputsAreWell, OutUpTo}
+use Rattle.otn_c.specs.Places.{OpensWith, HasNoPart, InputsAreWell, OutUpTo}
 use Rattle.otn_c.specs.declared.answer.Answer.{Answer}
 
 -- a status is no want of room
@@ -32,6 +33,8 @@ module _ (answer : Status) (last : BaysView) (report_now : SinkView) (told : Ans
       record {
         outputs_got = out.parts room;
         outputs_fit = λ n h. (let within = out.within n h in omega arith);
+        outputs_rise = out.rising;
+        outputs_all = out.last ∙ sym all;
         report_got = got ∙ ap Some (sym put ∙ ap (λ k. take k report) (sym size));
         report_fits = subst (λ k. k ≤ length report) (sym size) fits;
       },
@@ -46,6 +49,7 @@ module _ (answer : Status) (last : BaysView) (report_now : SinkView) (told : Ans
     gives = λ other. absurd (other refl);
     needs = λ same. record {
       little = little;
+      outputs_rise = out.rising;
       outputs_all = out.last ∙ sym all;
       outputs_size = out.sizes;
       report_bytes = bytes;
@@ -58,8 +62,9 @@ module _ (answer : Status) (last : BaysView) (report_now : SinkView) (told : Ans
 pub is_called : (line plan block ends present : List ℕ) (code : ℕ) (told : Answer) (outputs output_ends report : List ℕ) (words : List (List ℕ)) (answer : Status)
     (first last : BaysView) (fresh report_now : SinkView) → words ≡ words_said line → fresh ≡ fresh_sink → OpensWith present block ends first → InputsAreWell last
     → IsAnswered words plan first last fresh report_now answer → IsHandedOut code answer last report_now told outputs output_ends report
+    → IsUtf8 line → (HasNoPart block ends → ⊥)
     → CallEnds line plan block ends present code told outputs output_ends report
-is_called line plan block ends present code told outputs output_ends report words answer first last fresh report_now said is opens well answered handed = record {
+is_called line plan block ends present code told outputs output_ends report words answer first last fresh report_now said is opens well answered handed text parts = record {
   called = λ other. record {
     answer = answer;
     first = first;
@@ -71,4 +76,6 @@ is_called line plan block ends present code told outputs output_ends report word
     handed = handed;
   };
   none = λ same. absurd (let few = handed.codes in omega arith);
+  words = λ other. text;
+  parts = λ other. parts;
 }

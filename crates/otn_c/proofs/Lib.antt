@@ -1,3 +1,4 @@
+mod AwaitedLists
 mod Answering
 mod ByteRuns
 mod Calm

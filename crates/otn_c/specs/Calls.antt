@@ -10,7 +10,7 @@ use Rattle.plan_file.specs.declared.error.NoPlan.TheVariants.{Refused}
 use Rattle.plan_file.specs.declared.error.PlanError.{PlanError}
 use Rattle.plan_file.specs.declared.plan.Plan.{Plan}
 use Rattle.line_tool.specs.AnswerWords.{IsRefusal}
-use Rattle.line_tool.specs.Answers.{Answers}
+use Rattle.line_tool.specs.Answers.{Answers, LeavesBays}
 use Rattle.line_tool.specs.Codes.{code_of}
 use Rattle.line_tool.specs.PlanCheck.{plan_text}
 use Rattle.line_tool.specs.PullReport.{pull_report, tributary}
@@ -44,6 +44,8 @@ pub record IsAnswered (words : List (List ℕ)) (plan : List ℕ) (first last : 
       (record { plan = left; bays = last; report = report_now }) 0 asked answer
   -- after Words, PlanFault, Plan and Memory all is as it was
   pub refused : IsRefusal answer → (last ≡ first) × (report_now ≡ report)
+  -- `check` and `trial` leave the places alone
+  pub alone : (command : Command) → IsForm words command → LeavesBays command → last ≡ first
 
 -- the rule of a plan that was broken, and its place, where that is the answer; and 0
 abbrev pub rule_told : Status → ℕ
@@ -66,6 +68,8 @@ pub record Gives (last : BaysView) (report_now : SinkView) (told : Answer)
     (outputs output_ends report : List ℕ) : Type 0 where
   pub outputs_got : (n : ℕ) → n < 20 → IsKept (output_at last n) (part_of outputs output_ends n)
   pub outputs_fit : (n : ℕ) → n < 20 → end_of output_ends n ≤ length outputs
+  pub outputs_rise : (n : ℕ) → n < 20 → start_of output_ends n ≤ end_of output_ends n
+  pub outputs_all : end_of output_ends 19 ≡ told.outputs
   pub report_got : report_now.got ≡ Some (take told.report report)
   pub report_fits : told.report ≤ length report
 
@@ -73,6 +77,7 @@ pub record Gives (last : BaysView) (report_now : SinkView) (told : Answer)
 pub record Needs (last : BaysView) (report_now : SinkView) (told : Answer)
     (outputs output_ends report : List ℕ) : Type 0 where
   pub little : (length outputs < told.outputs) ⊎ (length report < told.report)
+  pub outputs_rise : (n : ℕ) → n < 20 → start_of output_ends n ≤ end_of output_ends n
   pub outputs_all : end_of output_ends 19 ≡ told.outputs
   pub outputs_size : (n : ℕ) → n < 20 → HasSize (output_at last n) (end_of output_ends n - start_of output_ends n)
   pub report_bytes : List ℕ
@@ -122,6 +127,8 @@ pub record CallEnds (line plan block ends present : List ℕ) (code : ℕ) (told
     (outputs output_ends report : List ℕ) : Type 0 where
   pub called : code ≢ no_call → Called line plan block ends present code told outputs output_ends report
   pub none : code ≡ no_call → (IsUtf8 line → ⊥) ⊎ HasNoPart block ends
+  pub words : code ≢ no_call → IsUtf8 line
+  pub parts : code ≢ no_call → HasNoPart block ends → ⊥
 
 -- ---- commands over the bytes of a call
 

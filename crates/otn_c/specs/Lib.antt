@@ -1,3 +1,4 @@
+pub mod Awaiting
 pub mod Blocks
 pub mod Calls
 pub mod Growing

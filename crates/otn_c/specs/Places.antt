@@ -36,6 +36,7 @@ HasNoPart block ends = (n : ℕ) × (n < 20) × IsNoPart block ends n
 pub record LinesUpTo (present block ends : List ℕ) (n : ℕ) (first now : BaysView) : Type 0 where
   pub line_in : (a : ℕ) → a < n → line_in_at now a ≡ input_at present block ends a
   pub line_out : (b : ℕ) → b < n → line_out_at now b ≡ waiting
+  pub parts : (a : ℕ) → a < n → IsNoPart block ends a → ⊥
   pub client_in : now.client_in ≡ first.client_in
   pub client_out : now.client_out ≡ first.client_out
 
@@ -43,6 +44,7 @@ pub record LinesUpTo (present block ends : List ℕ) (n : ℕ) (first now : Bays
 pub record ClientsUpTo (present block ends : List ℕ) (n : ℕ) (first now : BaysView) : Type 0 where
   pub client_in : (m : ℕ) → m < n → client_in_at now m ≡ input_at present block ends (4 + m)
   pub client_out : (m : ℕ) → m < n → client_out_at now m ≡ waiting
+  pub parts : (m : ℕ) → m < n → IsNoPart block ends (4 + m) → ⊥
   pub line_in : now.line_in ≡ first.line_in
   pub line_out : now.line_out ≡ first.line_out
 

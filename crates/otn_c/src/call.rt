@@ -1,7 +1,8 @@
 // A call of the library.
-ghost use Rattle.std.specs.Prelude.{◌≡◌, ◌≢◌, ◌≤◌, IfOk, length};
+ghost use Rattle.std.specs.Prelude.{◌≡◌, ◌≢◌, ◌≤◌, ◌⊎◌, IfOk, length};
 ghost use Rattle.otn_ports.specs.PortViews.{sink_view};
 ghost use Rattle.otn_ports.specs.Racks.{bays_view};
+ghost use Rattle.otn_c.specs.Awaiting.{AreOutputs};
 ghost use Rattle.otn_c.specs.Calls.{CallEnds, Called, IsHandedOut, IsNoCall, Tells, no_call, no_memory};
 
 use crate::answer::Answer;
@@ -44,6 +45,8 @@ pub(crate) fn answer_call(
         → Called words.now plan.now inputs.now ends.now present.now result told.new outputs.new output_ends.new
         report.new }
     ensures none { result ≡ no_call → IsNoCall words.now inputs.now ends.now present.now output_ends.old }
+    ensures refused { IsNoCall words.now inputs.now ends.now present.now output_ends.old
+        → (result ≡ no_call) ⊎ (result ≡ no_memory) }
     ensures codes { result ≤ no_call }
 {
     if ends.len() != PORTS || present.len() != PORTS || output_ends.len() != PORTS {
@@ -118,7 +121,8 @@ fn hand_out(
     report: &mut [u8],
     told: &mut Answer,
 ) -> Result<u32, Memory>
-    requires { length output_ends.old ≡ 20 }
+    requires ends { length output_ends.old ≡ 20 }
+    requires awaited { AreOutputs 20 awaited.now }
     ensures { IfOk result (λ code. IsHandedOut code status
         (bays_view ⟦<SliceSource<'static> as Source>⟧ ⟦<GrowingSink as Sink>⟧ bays.now)
         (sink_view ⟦<GrowingSink as Sink>⟧ got.now)

@@ -1,5 +1,5 @@
 // A sink in memory that grows.
-ghost use Rattle.std.specs.Prelude.{◌≡◌, ◌≢◌, ◌≤◌, ◌++◌, [], true, Some, IfOk, OnOk, OnErr, length, take};
+ghost use Rattle.std.specs.Prelude.{◌≡◌, ◌≢◌, ◌≤◌, ◌++◌, [], true, Some, IfOk, OnOk, OnErr, if◌then◌else◌, is_ok, length, take};
 ghost use Rattle.otn_ports.specs.Bytes.{sent, faults_after, HasFailed};
 ghost use Rattle.otn_ports.specs.Writes.{IsWriting};
 
@@ -106,6 +106,13 @@ fn keep(beside: &Option<Beside>, bytes: &[u8]) -> Result<(), Failed> {
 
 fn append(beside: &Beside, bytes: &[u8]) -> Result<(), Failed> {
     let mut kept = beside.try_borrow_mut().map_err(|_| Failed)?;
+    grow(&mut kept, bytes)
+}
+
+// Appends these bytes to those that came before, or leaves these as they are where there is no memory.
+fn grow(kept: &mut Vec<u8>, bytes: &[u8]) -> Result<(), Failed>
+    ensures { kept.new.items ≡ (if is_ok result then kept.old.items ++ bytes.now else kept.old.items) }
+{
     kept.extend_from_slice(bytes).map_err(|_| Failed)
 }
 

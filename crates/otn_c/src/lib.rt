@@ -13,7 +13,7 @@
 //! - `words`: the words of a line.
 #![tactic(auto)]
 
-ghost use Rattle.std.specs.Prelude.{◌≡◌, ◌≢◌, ◌≤◌};
+ghost use Rattle.std.specs.Prelude.{◌≡◌, ◌≢◌, ◌≤◌, ◌⊎◌};
 ghost use Rattle.otn_c.specs.Calls.{Called, IsNoCall, PlanOverBytes, PullOverBytes, SlotOverBytes, no_call, no_memory};
 
 mod answer;
@@ -68,8 +68,10 @@ pub extern "C" fn otn_run(
     ensures called { result ≢ no_memory → result ≢ no_call
         → Called words.now plan.now inputs.now ends.now present.now result told.new outputs.new output_ends.new
         report.new }
-    // Only what is no call is refused.
+    // What is no call is refused, where there is memory to find it, and nothing else is.
     ensures none { result ≡ no_call → IsNoCall words.now inputs.now ends.now present.now output_ends.old }
+    ensures refused { IsNoCall words.now inputs.now ends.now present.now output_ends.old
+        → (result ≡ no_call) ⊎ (result ≡ no_memory) }
     ensures codes { result ≤ no_call }
     // Of `slot K`, by the bytes alone: the report is the slot's payload bytes in each whole frame of input 0.
     ensures slot { SlotOverBytes words.now inputs.now ends.now present.now result told.new report.new }

@@ -2,11 +2,12 @@
 ghost use Rattle.std.specs.Prelude.{◌≡◌, ◌<◌, IfSome, length};
 ghost use Rattle.otn_ports.specs.OutPlace.{out_view};
 ghost use Rattle.otn_ports.specs.Racks.{bays_view};
-ghost use Rattle.otn_c.specs.Places.{IsPut, IsPutAny, IsPutOf, OutUpTo, output_at};
+ghost use Rattle.otn_ports.specs.Views.{Empty};
+ghost use Rattle.otn_c.specs.Awaiting.{AreOutputs};
+ghost use Rattle.otn_c.specs.Places.{IsPut, IsPutOf, OutUpTo, output_at};
 
 use crate::awaited::Awaited;
 use crate::blocks::put;
-use crate::growing_sink::Beside;
 use crate::places::Places;
 use crate::{GrowingSink, SliceSource};
 use otn_base::limits::{CLIENTS, LINES};
@@ -24,7 +25,8 @@ pub(crate) fn put_outputs(
     block: &mut [u8],
     ends: &mut [usize],
 ) -> Option<usize>
-    requires { length ends.old ≡ 20 }
+    requires ends { length ends.old ≡ 20 }
+    requires awaited { AreOutputs 20 awaited.now }
     ensures block { length block.new ≡ length block.old }
     ensures ends { length ends.new ≡ length ends.old }
     ensures out { IfSome result (OutUpTo 20
@@ -32,81 +34,63 @@ pub(crate) fn put_outputs(
 {
     let mut total = 0;
     for n in 0..PORTS {
-        let end = put_output(bays, awaited, n, block, total)?;
+        let end = put_output(place_of(bays, n), &awaited[n], n, block, total)?;
         ends[n] = end;
         total = end;
     }
     Some(total)
 }
 
-// Puts what output n got behind the first `at` bytes of the block, and answers where it ends.
+// The place of output n.
+fn place_of<'a>(bays: &'a Places<'_>, n: usize) -> &'a OutPlaceOf<GrowingSink>
+    requires { n < 20 }
+    ensures { out_view ⟦<GrowingSink as Sink>⟧ result.now ≡ output_at
+        (bays_view ⟦<SliceSource<'static> as Source>⟧ ⟦<GrowingSink as Sink>⟧ bays.now) n }
+{
+    if n < LINES {
+        bays.line_out(n as u8)
+    } else {
+        bays.client_out((n - LINES) as u8)
+    }
+}
+
+// Puts what the port of output n got behind the first `at` bytes of the block, or what was kept beside it, and answers
+// where it ends.
 fn put_output(
-    bays: &Places<'_>,
-    awaited: &[Awaited],
+    place: &OutPlaceOf<GrowingSink>,
+    awaited: &Awaited,
     n: usize,
     block: &mut [u8],
     at: usize,
 ) -> Option<usize>
-    requires { n < 20 }
+    requires { awaited.now.output ≡ n }
     ensures length { length block.new ≡ length block.old }
-    ensures put { IfSome result (IsPutOf (output_at
-        (bays_view ⟦<SliceSource<'static> as Source>⟧ ⟦<GrowingSink as Sink>⟧ bays.now) n) at block.old block.new) }
+    ensures put { IfSome result (IsPutOf (out_view ⟦<GrowingSink as Sink>⟧ place.now) at block.old block.new) }
 {
-    if n < LINES {
-        return put_place(bays.line_out(n as u8), None, block, at);
+    match awaited.beside_of(n) {
+        Some(beside) => match beside.try_borrow() {
+            Ok(kept) => put_place(place, kept.as_slice(), block, at),
+            Err(_) => None,
+        },
+        None => put_place(place, &[], block, at),
     }
-    put_place(
-        bays.client_out((n - LINES) as u8),
-        awaited.get(n),
-        block,
-        at,
-    )
 }
 
-// Puts what the port of a place got, or what was kept beside it where that is there no more.
+// Puts what the port of a place got, or these bytes where that is there no more.
 fn put_place(
     place: &OutPlaceOf<GrowingSink>,
-    awaited: Option<&Awaited>,
+    kept: &[u8],
     block: &mut [u8],
     at: usize,
 ) -> Option<usize>
     ensures length { length block.new ≡ length block.old }
     ensures put { IfSome result (IsPutOf (out_view ⟦<GrowingSink as Sink>⟧ place.now) at block.old block.new) }
+    ensures kept { (out_view ⟦<GrowingSink as Sink>⟧ place.now).state ≡ Empty
+        → IfSome result (IsPut kept.now at block.old block.new) }
 {
     match place.kept() {
         Some(bytes) => put_bytes(block, at, bytes),
-        None => put_beside(awaited, block, at),
-    }
-}
-
-// Puts what was kept beside a place: nothing where nothing was.
-fn put_beside(awaited: Option<&Awaited>, block: &mut [u8], at: usize) -> Option<usize>
-    ensures length { length block.new ≡ length block.old }
-    ensures put { IfSome result (IsPutAny at block.old block.new) }
-{
-    match awaited {
-        Some(awaited) => put_kept(&awaited.beside, block, at),
-        None => put_bytes(block, at, &[]),
-    }
-}
-
-fn put_kept(beside: &Option<Beside>, block: &mut [u8], at: usize) -> Option<usize>
-    ensures length { length block.new ≡ length block.old }
-    ensures put { IfSome result (IsPutAny at block.old block.new) }
-{
-    match beside {
-        Some(beside) => put_shared(beside, block, at),
-        None => put_bytes(block, at, &[]),
-    }
-}
-
-fn put_shared(beside: &Beside, block: &mut [u8], at: usize) -> Option<usize>
-    ensures length { length block.new ≡ length block.old }
-    ensures put { IfSome result (IsPutAny at block.old block.new) }
-{
-    match beside.try_borrow() {
-        Ok(bytes) => put_bytes(block, at, bytes.as_slice()),
-        Err(_) => None,
+        None => put_bytes(block, at, kept),
     }
 }
 

@@ -1,11 +1,11 @@
 // The places of a call, in memory.
-ghost use Rattle.std.specs.Prelude.{◌≡◌, ◌<◌, ℕ, [], IfOk, MatchOption, length};
+ghost use Rattle.std.specs.Prelude.{◌≡◌, ◌<◌, ℕ, IfOk, MatchOption, OnSome, length};
 ghost use Rattle.otn_ports.specs.InPlace.{in_view};
 ghost use Rattle.otn_ports.specs.OutPlace.{out_view};
 ghost use Rattle.otn_ports.specs.Racks.{bays_view};
 ghost use Rattle.line_tool.specs.TrialRuns.{waiting};
+ghost use Rattle.otn_c.specs.Awaiting.{AreOutputs};
 ghost use Rattle.otn_c.specs.Blocks.{IsNoPart};
-ghost use Rattle.otn_c.specs.Growing.{growing_got, growing_faults};
 ghost use Rattle.otn_c.specs.Places.{OpensWith, HasNoPart, LinesUpTo, ClientsUpTo, input_at};
 
 use crate::awaited::Awaited;
@@ -30,9 +30,11 @@ pub(crate) fn places_of<'a>(
 ) -> Result<Option<Places<'a>>, Memory>
     requires ends { length ends.now ≡ 20 }
     requires present { length present.now ≡ 20 }
-    ensures { IfOk result (λ made. MatchOption made (HasNoPart block.now ends.now)
+    requires awaited { AreOutputs 20 awaited.now }
+    ensures opens { IfOk result (λ made. MatchOption made (HasNoPart block.now ends.now)
         (λ bays. OpensWith present.now block.now ends.now
         (bays_view ⟦<SliceSource<'static> as Source>⟧ ⟦<GrowingSink as Sink>⟧ bays))) }
+    ensures parts { IfOk result (λ made. OnSome made (HasNoPart block.now ends.now → ⊥)) }
 {
     let mut bays = Rack::new(alloc)?;
     let Some(()) = fill_lines(alloc, &mut bays, block, ends, present, awaited)? else {
@@ -55,6 +57,7 @@ fn fill_lines<'a>(
 ) -> Result<Option<()>, Memory>
     requires ends { length ends.now ≡ 20 }
     requires present { length present.now ≡ 20 }
+    requires awaited { AreOutputs 20 awaited.now }
     ensures { IfOk result (λ made. MatchOption made (HasNoPart block.now ends.now)
         (λ _. LinesUpTo present.now block.now ends.now 4
         (bays_view ⟦<SliceSource<'static> as Source>⟧ ⟦<GrowingSink as Sink>⟧ bays.old)
@@ -65,7 +68,7 @@ fn fill_lines<'a>(
             return Ok(None);
         };
         bays.set_line_in(n, place);
-        bays.set_line_out(n, output(alloc, awaited.get(n as usize))?);
+        bays.set_line_out(n, output(alloc, &awaited[n as usize], n as usize)?);
     }
     Ok(Some(()))
 }
@@ -81,6 +84,7 @@ fn fill_clients<'a>(
 ) -> Result<Option<()>, Memory>
     requires ends { length ends.now ≡ 20 }
     requires present { length present.now ≡ 20 }
+    requires awaited { AreOutputs 20 awaited.now }
     ensures { IfOk result (λ made. MatchOption made (HasNoPart block.now ends.now)
         (λ _. ClientsUpTo present.now block.now ends.now 16
         (bays_view ⟦<SliceSource<'static> as Source>⟧ ⟦<GrowingSink as Sink>⟧ bays.old)
@@ -91,7 +95,8 @@ fn fill_clients<'a>(
             return Ok(None);
         };
         bays.set_client_in(n, place);
-        bays.set_client_out(n, output(alloc, awaited.get(LINES + n as usize))?);
+        let m = LINES + n as usize;
+        bays.set_client_out(n, output(alloc, &awaited[m], m)?);
     }
     Ok(Some(()))
 }
@@ -105,8 +110,9 @@ fn input<'a>(
 ) -> Option<InPlaceOf<SliceSource<'a>>>
     requires ends { n < length ends.now }
     requires present { n < length present.now }
-    ensures { MatchOption result (IsNoPart block.now ends.now n)
+    ensures place { MatchOption result (IsNoPart block.now ends.now n)
         (λ place. in_view ⟦<SliceSource<'static> as Source>⟧ place ≡ input_at present.now block.now ends.now n) }
+    ensures part { OnSome result (IsNoPart block.now ends.now n → ⊥) }
 {
     let bytes = part(block, ends, n)?;
     if present[n] == 0 {
@@ -115,29 +121,17 @@ fn input<'a>(
     Some(InPlaceOf::Live(SliceSource::new(bytes), 0))
 }
 
-// The place of an output that got nothing yet.
-fn output(alloc: Global, awaited: Option<&Awaited>) -> Result<OutPlaceOf<GrowingSink>, Memory>
+// The place of output n, which got nothing yet.
+fn output(alloc: Global, awaited: &Awaited, n: usize) -> Result<OutPlaceOf<GrowingSink>, Memory>
+    requires { awaited.now.output ≡ n }
     ensures { IfOk result (λ place. out_view ⟦<GrowingSink as Sink>⟧ place ≡ waiting) }
 {
-    match awaited {
-        Some(awaited) => {
-            let sink = sink_of(alloc, awaited)?;
-            Ok(OutPlaceOf::Live(sink, 0))
-        }
-        None => Ok(OutPlaceOf::Live(GrowingSink::new(alloc), 0)),
-    }
-}
-
-// A sink of which this is known.
-fn sink_of(alloc: Global, awaited: &Awaited) -> Result<GrowingSink, Memory>
-    ensures got { IfOk result (λ sink. growing_got sink ≡ []) }
-    ensures faults { IfOk result (λ sink. growing_faults sink ≡ 0) }
-{
-    match &awaited.beside {
+    let sink = match awaited.beside_of(n) {
         Some(beside) => {
             let shared = beside.clone()?;
-            Ok(GrowingSink::with(alloc, awaited.room, Some(shared)))
+            GrowingSink::with(alloc, awaited.room, Some(shared))
         }
-        None => Ok(GrowingSink::with(alloc, awaited.room, None)),
-    }
+        None => GrowingSink::with(alloc, awaited.room, None),
+    };
+    Ok(OutPlaceOf::Live(sink, 0))
 }

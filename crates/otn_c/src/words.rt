@@ -1,5 +1,5 @@
 // The words of a call.
-ghost use Rattle.std.specs.Prelude.{◌≡◌, IfOk, MatchOption, map};
+ghost use Rattle.std.specs.Prelude.{◌≡◌, IfOk, MatchOption, OnSome, map};
 ghost use Rattle.std.specs.Str.{IsUtf8};
 ghost use Rattle.line_tool.specs.Words.{texts};
 ghost use Rattle.otn_c.specs.Blocks.{words_said};
@@ -10,8 +10,9 @@ use std::str;
 
 /// The words of a line, with a blank between each two. None where it is no text.
 pub(crate) fn words_of(alloc: Global, line: &[u8]) -> Result<Option<Vec<String>>, Memory>
-    ensures { IfOk result (λ said. MatchOption said (IsUtf8 line.now → ⊥)
+    ensures words { IfOk result (λ said. MatchOption said (IsUtf8 line.now → ⊥)
         (λ words. texts words.items ≡ words_said line.now)) }
+    ensures text { IfOk result (λ said. OnSome said (IsUtf8 line.now)) }
 {
     match str::from_utf8(line) {
         Ok(text) => Ok(Some(split_words(alloc, text)?)),

@@ -16,3 +16,4 @@ returns g c =
     (source_is (lent_left c.new-source.result) c.args.plan.now (lent_ended c.new-source.result) c.new-source.ensures.left c.new-source.ensures.ended)
     c.requires c.run.ensures.words c.run.ensures.answers
     (λ h. (ap view (c.run.ensures.refused h).0, ap (sink_view sink.ghosts) (c.run.ensures.refused h).1))
+    (λ command form leaves. ap view ((c.run.ensures.alone command form).1 leaves))

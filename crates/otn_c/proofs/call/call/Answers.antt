@@ -15,4 +15,4 @@ returns c =
     c.hand_out.new.outputs c.hand_out.new.output_ends c.hand_out.new.report (texts c.deref-3.result.now) c.answer-status.result
     (view c.in-Some-2.bays) (view c.answer-status.new.bays) (sink_view sink.ghosts c.new-got.result) (sink_view sink.ghosts c.answer-status.new.report)
     (search rules) (sink_is (growing_got c.new-got.result) (growing_faults c.new-got.result) c.new-got.ensures.got c.new-got.ensures.faults)
-    (search rules) (calm_inputs c.answer-status.new.bays) c.answer-status.ensures c.in_ok-code.ensures
+    (search rules) (calm_inputs c.answer-status.new.bays) c.answer-status.ensures c.in_ok-code.ensures (search rules) (search rules)
