@@ -3,12 +3,10 @@ use Rattle.std.proofs.Common.{◌≡◌, ◌<◌, ◌+◌, arith, ℕ, List, [],
 use Rattle.otn_ports.specs.Bytes.{after}
 use Rattle.otn_ports.specs.Views.{OutView, BaysView, no_output, line_out_at}
 use Rattle.std.proofs.Common.{get_or}
-use Rattle.otn_base.specs.declared.kind.PortName.TheVariants as port
-use Rattle.otn_ports.specs.Places.{OnlyPort, input_of}
 use Rattle.node_moments.specs.NodeView.{NodeView}
 use Rattle.node_moments.proofs.Later.{later_twice}
 use Rattle.node_core.specs.Growing.{OutputsGrow}
-use Rattle.network_core.specs.Turns.{LeadsLater, LinesUnasked}
+use Rattle.network_core.specs.Turns.{LeadsLater}
 
 none_after : (got : Option (List ℕ)) → got ≡ after got []
 none_after None = refl
@@ -39,17 +37,6 @@ stays node bays = λ plan first read h. record { more = read; stands = h; earlie
 pub leads_twice : (old node new : NodeView) (first was is : BaysView) → LeadsLater old first node was → LeadsLater node was new is → LeadsLater old first new is
 leads_twice old node new first was is one two = λ plan opened read h. later_twice plan opened read old node new was is (one plan opened read h)
     (λ k. two plan opened _ k)
-
--- ---- lines in
-
-pub unasked_not : (bays : BaysView) → LinesUnasked bays bays
-unasked_not bays = λ a. refl
-
-pub unasked_out : (first was is : BaysView) (b : ℕ) → LinesUnasked first was → OnlyPort (port.LineOut b) was is → LinesUnasked first is
-unasked_out first was is b one only = λ a. ap input_of (only.others (port.LineIn a) (λ e. cc)) ∙ one a
-
-pub unasked_twice : (first was is : BaysView) → LinesUnasked first was → LinesUnasked was is → LinesUnasked first is
-unasked_twice first was is one two = λ a. two a ∙ one a
 
 pub smaller : (a b : ℕ) → a + 1 ≡ b → a < b
 smaller a b e = omega arith

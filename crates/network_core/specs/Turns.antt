@@ -1,6 +1,5 @@
 -- API: a node that is carried for a part of a turn.
-use Rattle.std.specs.Prelude.{◌≡◌, ℕ}
-use Rattle.otn_ports.specs.Views.{BaysView, line_in_at}
+use Rattle.otn_ports.specs.Views.{BaysView}
 use Rattle.plan_file.specs.declared.plan.Plan.{Plan}
 use Rattle.node_moments.specs.NodeView.{NodeView}
 use Rattle.node_moments.specs.Stands.{InputBytes, StandsAt, Later}
@@ -9,7 +8,3 @@ use Rattle.node_moments.specs.Stands.{InputBytes, StandsAt, Later}
 abbrev pub LeadsLater : (old : NodeView) → (was : BaysView) → (new : NodeView) → (is : BaysView) → Type 0
 LeadsLater old was new is = (plan : Plan) (first : BaysView) (read : InputBytes) → StandsAt plan first read old was
     → Later plan first read old new is
-
--- no line in was asked anything
-abbrev pub LinesUnasked : (was is : BaysView) → Type 0
-LinesUnasked was is = (a : ℕ) → line_in_at is a ≡ line_in_at was a

@@ -1,11 +1,9 @@
-//! Several nodes carried turn by turn in one process, with fibres in memory between them.
+//! A node's turn, of which any pieces may have been done before: what several nodes in one process have in common,
+//! whose outputs are served first, and whose inputs get their bytes then.
 //!
-//! - `wire`: the far end of a fibre, which is filled while it is read.
-//! - `turns`: a node's turn in two parts: first its line outputs, then all else.
+//! - `turns`: what is left of the turn, and its end.
 #![tactic(auto)]
 
 mod turns;
-mod wire;
 
-pub use turns::{end_turn, write_lines};
-pub use wire::Wire;
+pub use turns::end_turn;

@@ -19,8 +19,8 @@ use Rattle.device_model.specs.Moments.{uses}
 use Rattle.device_model.proofs.ConnectionPorts.{from_line_used, to_line_used}
 use Rattle.node_moments.specs.NodeView.{NodeView}
 use Rattle.node_moments.specs.Stands.{StandsAt}
-use Rattle.refill_laws.specs.Refilling.{Refilled}
-use Rattle.refill_laws.proofs.Refilling.{stands_refilled}
+use Rattle.live_laws.specs.HandedIn.{LineGrew, left_with}
+use Rattle.live_laws.proofs.Grown.{lines_grow}
 use Rattle.run_laws.specs.SeenRuns.{Run}
 use Rattle.network_laws.specs.Networks.{FibreEnds, Network, IsNetwork}
 use Rattle.network_laws.specs.Routes.{fibre_of}
@@ -168,18 +168,20 @@ rounds_keep_it network old nodes bays net stands went =
 
 -- ---- a fibre that is filled
 
-out_kept : (a b : ℕ) (more : List ℕ) (old new : BaysView) → Refilled a more old new → line_out_at new b ≡ line_out_at old b
-out_kept a b more old new filled = ap output_of (filled.only.others (port.LineOut b) (λ e. cc))
+out_kept : (a b : ℕ) (more : List ℕ) (old new : BaysView) → LineGrew a more old new → line_out_at new b ≡ line_out_at old b
+out_kept a b more old new filled = ap (λ (views : List OutView). get_or views b no_output) filled.line_out
 
-in_kept : (a c : ℕ) (more : List ℕ) (old new : BaysView) → Refilled a more old new → c ≢ a → line_in_at new c ≡ line_in_at old c
-in_kept a c more old new filled apart = ap input_of (filled.only.others (port.LineIn c) (λ e. apart (cc)))
+in_kept : (a c : ℕ) (more : List ℕ) (old new : BaysView) → LineGrew a more old new → c ≢ a → line_in_at new c ≡ line_in_at old c
+in_kept a c more old new filled apart = filled.others c apart
 
 filled_out : (f : FibreEnds) (more : List ℕ) (old new : ℕ → NodeState) → FibreFilled f more old new → (j b : ℕ)
     → (line_out_at (new j).opened b ≡ line_out_at (old j).opened b) × (line_out_at (new j).now b ≡ line_out_at (old j).now b)
 filled_out f more old new filled j b = elim
     (eqb_tells j f.there) as (λ h. (line_out_at (new j).opened b ≡ line_out_at (old j).opened b) × (line_out_at (new j).now b ≡ line_out_at (old j).now b)) [
-      | inl t ↦ subst (λ k. (line_out_at (new k).opened b ≡ line_out_at (old k).opened b) × (line_out_at (new k).now b ≡ line_out_at (old k).now b)) (sym t.1)
-          (out_kept f.into b more (old f.there).opened (new f.there).opened filled.opened, out_kept f.into b more (old f.there).now (new f.there).now filled.now)
+      | inl t ↦ subst (λ k. (line_out_at (new k).opened b ≡ line_out_at (old k).opened b) × (line_out_at (new k).now b ≡ line_out_at (old k).now b)) (sym t.1) (
+        out_kept f.into b more (old f.there).opened (new f.there).opened filled.opened,
+        out_kept f.into b more (old f.there).now (new f.there).now filled.now,
+      )
       | inr t ↦ (ap (λ (s : NodeState). line_out_at s.opened b) (filled.others j t.1), ap (λ (s : NodeState). line_out_at s.now b) (filled.others j t.1))
     ]
 
@@ -201,7 +203,7 @@ filled_one f more rest old new filled h waits =
       waiting = rest;
       went = subst (Grew (line_out_at (new f.here).opened f.out).got (line_out_at (new f.here).now f.out).got) bytes
           (went_kept f f more (h.handed ++ h.waiting) old new filled h.went);
-      came = ap (λ (v : InView). v.left) filled.opened.place ∙ ap (option_map (λ bytes. bytes ++ more)) h.came;
+      came = ap (λ (v : InView). v.left) filled.opened.line ∙ ap (left_with more) h.came;
     }
 
 -- another, which ends at another line
@@ -241,8 +243,8 @@ hands_keep_it network f more rest old new net has stands waits filled = record {
     there_at : (plan : Plan) → StandsAt plan (old f.there).opened (old f.there).read (old f.there).node (old f.there).now
         → StandsAt plan (new f.there).opened (new f.there).read (new f.there).node (new f.there).now
     there_at plan s =
-        let r = stands_refilled plan (old f.there).opened (new f.there).opened (old f.there).now (new f.there).now (old f.there).read
-        (old f.there).node f.into more s filled.open_yet filled.opened filled.now in
+        let r = lines_grow plan (old f.there).opened (old f.there).now (new f.there).opened (new f.there).now (old f.there).read
+        (old f.there).node f.into more filled.open_yet filled.opened filled.now s in
         subst (λ read. StandsAt plan (new f.there).opened read (new f.there).node (new f.there).now) (sym filled.read)
         (subst (λ node. StandsAt plan (new f.there).opened (old f.there).read node (new f.there).now) (sym filled.node) r)
 

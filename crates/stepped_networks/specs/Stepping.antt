@@ -10,7 +10,7 @@ use Rattle.device_model.specs.Report.{Numbers}
 use Rattle.device_model.specs.RunLeft.{Takings, RunLeft}
 use Rattle.node_moments.specs.NodeView.{NodeView}
 use Rattle.node_moments.specs.Stands.{InputBytes, StandsAt, Later}
-use Rattle.refill_laws.specs.Refilling.{Refilled}
+use Rattle.live_laws.specs.HandedIn.{LineGrew}
 use Rattle.run_laws.specs.SeenRuns.{Run}
 use Rattle.network_laws.specs.Networks.{FibreEnds, Network, IsNetwork, NetworkRun}
 use Rattle.network_laws.specs.Routes.{Leg, IsLeg, IsJoined, fibre_of}
@@ -76,8 +76,8 @@ pub record FibreFilled (f : FibreEnds) (more : List ℕ) (old new : ℕ → Node
   pub others : (j : ℕ) → j ≢ f.there → new j ≡ old j
   pub read : (new f.there).read ≡ (old f.there).read
   pub node : (new f.there).node ≡ (old f.there).node
-  pub opened : Refilled f.into more (old f.there).opened (new f.there).opened
-  pub now : Refilled f.into more (old f.there).now (new f.there).now
+  pub opened : LineGrew f.into more (old f.there).opened (new f.there).opened
+  pub now : LineGrew f.into more (old f.there).now (new f.there).now
   pub open_yet : (line_in_at (old f.there).now f.into).ended ≡ false
 
 abbrev pub HandsKeepIt : Type 0
