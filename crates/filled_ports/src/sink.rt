@@ -6,8 +6,8 @@ use otn_ports::{Failed, Sink};
 use past_bytes::{Past, Taken};
 use std::alloc::Global;
 
-/// Tells all bytes that it got, and keeps those that it was not told to let go of, in memory that grows as they come. It
-/// fails where there is no memory.
+/// Tells all bytes that it got, and keeps those that it was not told to let go of, in memory that grows as they come.
+/// It fails where there is no memory.
 #[derive(Drop)]
 pub struct FilledSink {
     past: Past,
