@@ -1,19 +1,19 @@
 -- A node stands where it stood when further bytes are handed in.
-use Rattle.std.proofs.Common.{◌≡◌, ◌≢◌, ◌≤◌, ◌+◌, ℕ, Bool, true, false, List, ◌++◌, Option, Some, None, slice_get, refl, sym, subst, ap, ◌∙◌, inl, inr}
+use Rattle.std.proofs.Common.{◌≡◌, ◌≢◌, ℕ, false, List, Option, Some, None, refl, sym, subst, ap, ◌∙◌, inl, inr}
 use Rattle.std.proofs.lemmas.Bool.Decides.{eqb_tells}
 use Rattle.std.proofs.lemmas.List.{append_assoc}
 use Rattle.otn_base.specs.declared.kind.PortName.{PortName}
 use Rattle.otn_base.specs.declared.kind.PortName.TheVariants as port
 use Rattle.otn_ports.specs.Bytes.{before}
 use Rattle.otn_ports.specs.Given.{Gave}
-use Rattle.otn_ports.specs.Places.{place_at, Input, Output}
-use Rattle.otn_ports.specs.Views.{InView, OutView, BaysView, line_in_at, line_out_at, client_in_at, client_out_at, no_input, no_output}
+use Rattle.otn_ports.specs.Places.{place_at, Input}
+use Rattle.otn_ports.specs.Views.{InView, BaysView, line_in_at}
 use Rattle.line_side.specs.LineForm.{LineForm}
 use Rattle.line_side.specs.LineStands.{LineView, LineStands}
 use Rattle.plan_file.specs.declared.plan.Plan.{Plan}
 use Rattle.device_model.specs.Entries.{form_in}
 use Rattle.device_model.specs.Moments.{uses}
-use Rattle.node_moments.specs.NodeView.{NodeView, HasLineIn}
+use Rattle.node_moments.specs.NodeView.{NodeView}
 use Rattle.node_moments.specs.Stands.{InputBytes, StandsAt, PortStands, LineInAt}
 use Rattle.live_laws.specs.HandedIn.{left_with, grown, LineGrew, LinesGrow}
 
@@ -45,7 +45,8 @@ line_on further form first now read t line unended s = record {
 }
 
 module _ (plan : Plan) (first now first' now' : BaysView) (read : InputBytes) (node : NodeView) (a : ℕ) (further : List ℕ)
-    (unended : (line_in_at now a).ended ≡ false) (f : LineGrew a further first first') (n : LineGrew a further now now') (s : StandsAt plan first read node now) where
+    (unended : (line_in_at now a).ended ≡ false) (f : LineGrew a further first first') (n : LineGrew a further now now')
+    (s : StandsAt plan first read node now) where
   -- the line itself
   own_line : LineInAt plan first' read node now' a
   own_line line has used =

@@ -1,24 +1,21 @@
 -- A node stands where it stood when further packets are handed in at a client.
-use Rattle.std.proofs.Common.{◌≡◌, ◌≢◌, ◌≤◌, ◌+◌, ℕ, Bool, true, false, List, ◌++◌, Option, Some, None, slice_get, refl, sym, subst, ap, ◌∙◌, inl, inr}
+use Rattle.std.proofs.Common.{◌≡◌, ◌≢◌, ℕ, Bool, true, false, List, refl, sym, subst, ap, ◌∙◌, inl, inr}
 use Rattle.std.proofs.lemmas.Bool.Decides.{eqb_tells}
 use Rattle.otn_base.specs.declared.kind.PortName.{PortName}
 use Rattle.otn_base.specs.declared.kind.PortName.TheVariants as port
-use Rattle.otn_ports.specs.Places.{place_at, Input, Output}
+use Rattle.otn_ports.specs.Places.{place_at, Input}
 use Rattle.otn_ports.specs.Retiring.{retired_in_as}
-use Rattle.otn_ports.specs.Views.{State, Empty, Live, Dead, InView, BaysView, line_in_at, client_in_at}
+use Rattle.otn_ports.specs.Views.{State, Empty, Live, Dead, InView, BaysView, client_in_at}
 use Rattle.packet_text.specs.LinesStand.{LinesView, LinesStand, lines_view}
-use Rattle.odu_client.specs.Framing.{TextStands as StreamText, ClientStands as FramerStands, FramerState}
 use Rattle.plan_file.specs.declared.connection.Connection.{Connection}
 use Rattle.plan_file.specs.declared.plan.Plan.{Plan}
-use Rattle.cross_matrix.specs.Parts.{TextStands, ClientInStands}
-use Rattle.cross_matrix.specs.declared.taking.ClientText.{ClientText}
+use Rattle.cross_matrix.specs.Parts.{ClientInStands}
 use Rattle.cross_matrix.specs.declared.taking.TakingPart.{TakingPart}
 use Rattle.cross_matrix.specs.declared.taking.TakingPart.TheVariants as taking
-use Rattle.device_model.specs.Moments.{uses, touches, turns_done, is_retired}
+use Rattle.device_model.specs.Moments.{uses, turns_done, is_retired}
 use Rattle.device_model.specs.RetiredPlaces.{after_retire}
-use Rattle.node_links.specs.declared.link.Link.{Link}
-use Rattle.node_moments.specs.NodeView.{NodeView, HasLink, done_at}
-use Rattle.node_moments.specs.Stands.{InputBytes, StandsAt, PortStands, ClientStands, ClientAt, GivesText}
+use Rattle.node_moments.specs.NodeView.{NodeView, done_at}
+use Rattle.node_moments.specs.Stands.{InputBytes, StandsAt, PortStands}
 use Rattle.live_laws.specs.HandedIn.{grown, ClientGrew, PacketsGrow}
 use Rattle.live_laws.proofs.Grown.{gave_on}
 
@@ -77,7 +74,8 @@ stayed further true was now unended e =
     record { unended = s.0; place = s.1 }
 
 module _ (plan : Plan) (first now first' now' : BaysView) (read : InputBytes) (node : NodeView) (n : ℕ) (further : List ℕ)
-    (unended : (client_in_at now n).ended ≡ false) (f : ClientGrew n further first first') (g : ClientGrew n further now now') (s : StandsAt plan first read node now) where
+    (unended : (client_in_at now n).ended ≡ false) (f : ClientGrew n further first first') (g : ClientGrew n further now now')
+    (s : StandsAt plan first read node now) where
   own_client : PortStands plan first' read node now' (port.ClientIn n)
   own_client = record {
     started = λ i x link e has t le.

@@ -1,5 +1,5 @@
 pub mod Grown
 pub mod GrownText
-pub mod Handed
 pub mod Live
-pub mod TurnsOut
+pub mod LiveTurns
+pub mod MayCome

@@ -1,5 +1,5 @@
 -- A live node stands with what was handed in.
-use Rattle.std.proofs.Common.{◌≡◌, ◌≢◌, ◌<◌, ◌==◌, ℕ, zero, suc, Bool, true, false, List, [], ◌∷◌, ◌++◌, length, get_or, set, refl, sym, ap, ◌∙◌, inl, inr, arith}
+use Rattle.std.proofs.Common.{◌≡◌, ◌≢◌, ◌<◌, ◌==◌, ℕ, zero, suc, true, false, List, [], ◌∷◌, ◌++◌, length, get_or, set, refl, sym, ap, ◌∙◌, inl, inr, arith}
 use Rattle.std.specs.Prelude.{if◌then◌else◌}
 use Rattle.std.proofs.lemmas.Bool.Decides.{eqb_tells}
 use Rattle.std.proofs.lemmas.Grind.{common_steps}
@@ -9,7 +9,7 @@ use Rattle.plan_file.specs.declared.plan.Plan.{Plan}
 use Rattle.node_moments.specs.NodeView.{NodeView}
 use Rattle.node_moments.specs.Stands.{InputBytes, StandsAt, Later}
 use Rattle.live_laws.specs.HandedIn.{grown, LineGrew, ClientGrew}
-use Rattle.live_laws.specs.Live.{holding, OpensWith, with_line, with_client, LiveStands}
+use Rattle.live_laws.specs.Live.{holding, with_line, with_client, LiveStands}
 use Rattle.live_laws.proofs.Grown.{lines_grow}
 use Rattle.live_laws.proofs.GrownText.{packets_grow}
 
@@ -44,7 +44,8 @@ holds n m further places had live e = elim (eqb_tells m n) [
       more_other n m further places t.1 ∙ e ∙ ap (λ b. holding (if b then had m ++ further else had m)) (sym one)
 ]
 
-pub live_line : (plan : Plan) (handed : InputBytes) (node : NodeView) (a : ℕ) (further : List ℕ) (now now_with : BaysView) → a < 4 → (line_in_at now a).ended ≡ false
+pub live_line : (plan : Plan) (handed : InputBytes) (node : NodeView) (a : ℕ) (further : List ℕ) (now now_with : BaysView) → a < 4
+    → (line_in_at now a).ended ≡ false
     → LineGrew a further now now_with → LiveStands plan handed node now → LiveStands plan (with_line a further handed) node now_with
 live_line plan handed node a further now now_with few unended grew h =
     let live : (line_in_at h.first a).state ≡ Live = ap (λ (v : InView). v.state) (h.opens.line_in a few) in
@@ -69,7 +70,8 @@ live_line plan handed node a further now now_with few unended grew h =
           grew h.stands;
     }
 
-pub live_client : (plan : Plan) (handed : InputBytes) (node : NodeView) (n : ℕ) (further : List ℕ) (now now_with : BaysView) → n < 16 → (client_in_at now n).ended ≡ false
+pub live_client : (plan : Plan) (handed : InputBytes) (node : NodeView) (n : ℕ) (further : List ℕ) (now now_with : BaysView) → n < 16
+    → (client_in_at now n).ended ≡ false
     → ClientGrew n further now now_with → LiveStands plan handed node now → LiveStands plan (with_client n further handed) node now_with
 live_client plan handed node n further now now_with few unended grew h =
     let live : (client_in_at h.first n).state ≡ Live = ap (λ (v : InView). v.state) (h.opens.client_in n few) in

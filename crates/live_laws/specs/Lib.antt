@@ -1,3 +1,3 @@
 pub mod HandedIn
 pub mod Live
-pub mod TurnsOut
+pub mod LiveTurns

@@ -1,1 +1,4 @@
-pub mod Going
+pub mod Handing
+pub mod Opening
+pub mod Served
+pub mod Turning

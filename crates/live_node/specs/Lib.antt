@@ -1,2 +1,3 @@
-pub mod Ports
-pub mod Going
+pub mod Served
+pub mod Places
+pub mod Live

@@ -54,6 +54,13 @@ impl LineWatch {
         Ok(())
     }
 
+    /// The last whole frames that came are not to count.
+    pub(crate) fn take_back(&mut self, frames: &[u8]) {
+        let count = frames.len() / LINE_FRAME_BYTES;
+        let rest = self.waiting.len().saturating_sub(count);
+        self.waiting.truncate(rest);
+    }
+
     /// No more frames come.
     pub(crate) fn close(&mut self) {
         self.closed = true;

@@ -1,42 +1,37 @@
 // A node that is driven turn by turn.
-ghost use Rattle.std.specs.Prelude.{◌≡◌, ◌≢◌, ◌<◌, ◌≤◌, None, Ok};
-ghost use Rattle.otn_ports.specs.InPlace.{in_view};
-ghost use Rattle.otn_ports.specs.OutPlace.{out_view};
-ghost use Rattle.otn_ports.specs.Racks.{bays_view};
+ghost use Rattle.std.specs.Prelude.{◌≡◌, ◌≢◌, ◌≤◌, ◌<◌, ◌+◌, [], None, Ok, IfOk, MatchOption};
 ghost use Rattle.plan_file.specs.Answer.{fault_in};
-ghost use Rattle.live_node.specs.Going.{GoesOn, TakesLine};
-ghost use Rattle.live_laws.specs.HandedIn.{grown, LineGrew};
+ghost use Rattle.device_model.specs.Report.{report_text};
+ghost use Rattle.device_model.specs.RunNumbers.{numbers_of_run};
+ghost use Rattle.node_moments.specs.Stands.{no_bytes};
+ghost use Rattle.live_laws.specs.Live.{AreServed, LiveStands};
+ghost use Rattle.live_node.specs.Live.{GoesOn, HasLeft, IsStill, TakesLine, TakesPackets};
+ghost use Rattle.live_node.specs.Places.{places, line_kept, client_kept};
 
 use crate::client_watch::{ClientWatch, are_lines};
 use crate::line_watch::{LineWatch, are_frames};
-use crate::{LiveSink, LiveSource};
-use live_laws::handing_in_line;
-use node_core::Node;
-use otn_base::limits::{CLIENTS, LINES, MOST_SLOTS};
+use crate::places::{
+    Places, client_kept, hand_in_client, hand_in_line, has_died, let_go_of_outputs, line_kept,
+    open_places,
+};
+use crate::serving::serve_outputs;
+use crate::{HandedIn, Lack};
+use arrayvec::ArrayString;
+use network_core::end_turn;
+use node_core::{Node, RunNumbers};
+use otn_base::limits::{CLIENTS, LINES};
 use otn_base::{LineKind, Memory, PortName};
-use otn_ports::{InPlaceOf, OutPlaceOf, Rack, Sink, Source};
 use plan_file::{Connection, FromEnd, LineList, Plan};
+use run_report::{REPORT_BYTES, put_report};
 use std::alloc::Global;
-use turn_pieces::port_at;
-
-/// What came of handing in.
-#[derive(Clone, Copy, Debug, PartialEq, Eq)]
-pub enum HandedIn {
-    /// The bytes are handed in.
-    Taken,
-    /// The plan has no such input, or it was closed: nothing is handed in.
-    NoInput,
-    /// The bytes of a line are no whole frames, or those of a client no whole lines: nothing is handed in.
-    NotWhole,
-}
 
 /// What came of a turn.
 #[derive(Clone, Copy, Debug, PartialEq, Eq)]
 pub enum Turned {
     /// The turn is done, and what leaves in the next one is there.
     Done,
-    /// This line wants more frames for the turn: nothing was done.
-    Waits(u8),
+    /// This input lacks something for the turn: nothing was done.
+    Waits(PortName),
     /// All turns of the plan were done: nothing was done.
     Over,
 }
@@ -45,43 +40,53 @@ pub enum Turned {
 /// alone, so it is there before anything is handed in for that turn.
 #[derive(Drop)]
 pub struct LiveNode {
-    alloc: Global,
     plan: Plan,
     node: Node,
-    bays: Rack<LiveSource, LiveSink>,
+    bays: Places,
     lines: Vec<LineWatch>,
     clients: Vec<ClientWatch>,
+    ghost accepted: { fault_in plan ≡ None },
 }
 
 impl LiveNode {
     /// A node of an accepted plan, before its first turn. What leaves in that is there.
     pub fn new(alloc: Global, plan: Plan) -> Result<LiveNode, Memory>
         requires accepted { fault_in plan ≡ None }
+        ensures stands { IfOk result (λ live. LiveStands plan no_bytes live.node (places live.bays)) }
+        ensures turns { IfOk result (λ live. live.node.turns ≡ plan.turns) }
+        ensures past { IfOk result (λ live. live.node.past ≡ 0) }
+        ensures served { IfOk result (λ live. AreServed live.node) }
     {
-        let node = Node::build(alloc, &plan)?;
-        let mut made = LiveNode {
-            alloc,
-            node,
-            bays: Rack::new(alloc)?,
-            lines: Vec::new(alloc),
-            clients: Vec::new(alloc),
+        let mut node = Node::build(alloc, &plan)?;
+        let mut bays = open_places(alloc)?;
+        let lines = line_watches(alloc, &plan, &node)?;
+        let clients = client_watches(alloc, &plan)?;
+        serve_outputs(&mut node, &mut bays);
+        if has_died(&bays) {
+            return Err(Memory);
+        }
+        Ok(LiveNode {
             plan,
-        };
-        made.open_places()?;
-        made.serve_outputs();
-        Ok(made)
+            node,
+            bays,
+            lines,
+            clients,
+        })
     }
 
     /// The turn that is next to be done, from 1.
-    pub fn turn_number(&self) -> u32 {
+    pub fn turn_number(&self) -> u32
+        ensures { result ≡ self.now.node.past + 1 }
+    {
         self.node.turn()
     }
 
-    /// Hands in whole frames of line input `a`.
+    /// Hands in whole frames of line input `a`, behind all others of it.
     pub fn hand_in_line(&mut self, a: u8, frames: &[u8]) -> Result<HandedIn, Memory>
-        ensures stands { result ≡ Ok HandedIn.Taken → TakesLine a frames.now self.old.node self.new.node
-            (bays_view ⟦<LiveSource as Source>⟧ ⟦<LiveSink as Sink>⟧ self.old.bays)
-            (bays_view ⟦<LiveSource as Source>⟧ ⟦<LiveSink as Sink>⟧ self.new.bays) }
+        ensures taken { result ≡ Ok HandedIn.Taken → TakesLine a frames.now self.old.node self.new.node
+            (places self.old.bays) (places self.new.bays) }
+        ensures still { result ≢ Ok HandedIn.Taken → IsStill self.old.node self.new.node (places self.old.bays)
+            (places self.new.bays) }
     {
         if a >= LINES as u8 {
             return Ok(HandedIn::NoInput);
@@ -89,329 +94,267 @@ impl LiveNode {
         if !are_frames(frames) {
             return Ok(HandedIn::NotWhole);
         }
-        let Some(watch) = self.lines.get_mut(a as usize) else {
-            return Ok(HandedIn::NoInput);
-        };
-        if !watch.is_open() {
+        if !self.is_open_line(a) {
             return Ok(HandedIn::NoInput);
         }
-        watch.note(frames)?;
-        self.take_line(a, frames)
+        self.note_line(a, frames)?;
+        let answer = hand_in_line(&mut self.bays, a, frames);
+        self.line_answered(a, &answer, frames);
+        answer
     }
 
-    /// Hands in lines of packets of client input `n`.
-    pub fn hand_in_client(&mut self, n: u8, text: &[u8]) -> Result<HandedIn, Memory> {
+    /// Hands in lines of packets of client input `n`, behind all others of it.
+    pub fn hand_in_client(&mut self, n: u8, text: &[u8]) -> Result<HandedIn, Memory>
+        ensures taken { result ≡ Ok HandedIn.Taken → TakesPackets n text.now self.old.node self.new.node
+            (places self.old.bays) (places self.new.bays) }
+        ensures still { result ≢ Ok HandedIn.Taken → IsStill self.old.node self.new.node (places self.old.bays)
+            (places self.new.bays) }
+    {
         if n >= CLIENTS as u8 {
             return Ok(HandedIn::NoInput);
         }
         if !are_lines(text) {
             return Ok(HandedIn::NotWhole);
         }
-        let Some(watch) = self.clients.get_mut(n as usize) else {
-            return Ok(HandedIn::NoInput);
-        };
-        if !watch.is_open() {
+        if !self.is_open_client(n) {
             return Ok(HandedIn::NoInput);
         }
-        watch.note(text);
-        hand_in(self.bays.client_in_mut(n), text)
+        let answer = hand_in_client(&mut self.bays, n, text);
+        self.client_answered(n, &answer, text);
+        answer
     }
 
     /// Ends line input `a`: no more frames come.
-    pub fn end_line(&mut self, a: u8) {
+    pub fn end_line(&mut self, a: u8)
+        ensures { IsStill self.old.node self.new.node (places self.old.bays) (places self.new.bays) }
+    {
         if let Some(watch) = self.lines.get_mut(a as usize) {
             watch.close();
         }
     }
 
     /// Ends client input `n`: no more packets come.
-    pub fn end_client(&mut self, n: u8) {
+    pub fn end_client(&mut self, n: u8)
+        ensures { IsStill self.old.node self.new.node (places self.old.bays) (places self.new.bays) }
+    {
         if let Some(watch) = self.clients.get_mut(n as usize) {
             watch.close();
         }
     }
 
-    /// Does a turn over what was handed in, and makes what leaves in the next one.
-    pub fn do_turn(&mut self) -> Result<Turned, Memory> {
+    /// What client input `n` lacks for the next turn.
+    pub fn client_lack(&self, n: u8) -> Lack {
+        match self.clients.get(n as usize) {
+            Some(watch) => watch.lack(),
+            None => Lack {
+                packet: 0,
+                lines: 0,
+            },
+        }
+    }
+
+    /// Does a turn over what was handed in, and makes what leaves in the next one. What left in this one is let go of.
+    /// It answers `Memory` where there was none for what leaves.
+    pub fn do_turn(&mut self) -> Result<Turned, Memory>
+        ensures stands { GoesOn self.old.node self.new.node (places self.old.bays) (places self.new.bays) }
+        ensures done { result ≡ Ok Turned.Done → self.new.node.past ≡ self.old.node.past + 1 }
+        ensures served { result ≡ Ok Turned.Done → AreServed self.new.node }
+        ensures over { result ≡ Ok Turned.Over → self.old.node.turns ≤ self.old.node.past }
+        ensures still { (turned : Turned) → result ≡ Ok turned → turned ≢ Turned.Done → IsStill self.old.node
+            self.new.node (places self.old.bays) (places self.new.bays) }
+    {
         if self.node.finished() {
             return Ok(Turned::Over);
         }
-        if let Some(a) = self.short_line() {
-            return Ok(Turned::Waits(a));
+        if let Some(port) = self.short_input() {
+            return Ok(Turned::Waits(port));
         }
-        self.fill_clients()?;
-        self.let_go_of_outputs();
-        self.pass_turn();
-        self.end_lines();
+        let_go_of_outputs(&mut self.bays);
+        end_turn(&mut self.node, &mut self.bays);
+        serve_outputs(&mut self.node, &mut self.bays);
+        end_lines(&mut self.lines);
+        begin_clients(&mut self.clients, &self.plan, self.node.turn());
+        if has_died(&self.bays) {
+            return Err(Memory);
+        }
         Ok(Turned::Done)
     }
 
     /// The frames of line output `b` that leave in the next turn.
-    pub fn line_out(&self, b: u8) -> &[u8] {
-        if b >= LINES as u8 {
-            return &[];
-        }
-        fresh(self.bays.line_out(b))
+    pub fn line_out(&self, b: u8) -> &[u8]
+        requires few { b < 4 }
+        ensures { result.now ≡ line_kept self.now.bays b }
+    {
+        line_kept(&self.bays, b)
     }
 
     /// The text of the packets that leave to client output `n` in the next turn.
-    pub fn client_out(&self, n: u8) -> &[u8] {
-        if n >= CLIENTS as u8 {
-            return &[];
-        }
-        fresh(self.bays.client_out(n))
-    }
-
-    // ---- handing in
-
-    // Hands in frames of a line.
-    fn take_line(&mut self, a: u8, frames: &[u8]) -> Result<HandedIn, Memory>
-        requires { a < 4 }
-        ensures stands { result ≡ Ok HandedIn.Taken → TakesLine a frames.now self.old.node self.new.node
-            (bays_view ⟦<LiveSource as Source>⟧ ⟦<LiveSink as Sink>⟧ self.old.bays)
-            (bays_view ⟦<LiveSource as Source>⟧ ⟦<LiveSink as Sink>⟧ self.new.bays) }
+    pub fn client_out(&self, n: u8) -> &[u8]
+        requires few { n < 16 }
+        ensures { result.now ≡ client_kept self.now.bays n }
     {
-        handing_in_line();
-        hand_in_line_at(&mut self.bays, a, frames)
+        client_kept(&self.bays, n)
     }
 
-    // ---- opening
+    /// The numbers of a run, once all turns of the plan were done: each line whose end was not seen is asked for one
+    /// byte more. None before.
+    pub fn finish(&mut self) -> Option<RunNumbers>
+        ensures { MatchOption result (self.old.node.past < self.old.node.turns) (λ numbers. HasLeft self.old.node
+            (places self.old.bays) (places self.new.bays) (numbers_of_run numbers)) }
+    {
+        if !self.node.finished() {
+            return None;
+        }
+        let outcome = self.node.settle(&mut self.bays);
+        Some(self.node.numbers(outcome))
+    }
 
-    // Puts a port in each place that the plan uses.
-    fn open_places(&mut self) -> Result<(), Memory> {
+    /// Puts the report of a run that ended with these numbers into the empty text.
+    pub fn put_report(&self, numbers: &RunNumbers, text: &mut ArrayString<REPORT_BYTES>)
+        requires empty { text.old.bytes ≡ [] }
+        ensures { text.new.bytes ≡ report_text self.now.plan (numbers_of_run numbers.now) (places self.now.bays) }
+    {
+        put_report(text, &self.plan, numbers, &self.bays);
+    }
+
+    // ---- whether a turn may be done
+
+    // The first input that lacks something for the turn.
+    fn short_input(&self) -> Option<PortName> {
         for a in 0..LINES as u8 {
-            let kind = kind_of(&self.plan.otu3_in, a);
-            let scrambled = self.plan.scrambled_in.as_slice().contains(&a);
-            let mut watch = LineWatch::new(self.alloc, kind, scrambled);
-            if !self.node.ready(PortName::LineIn(a)) {
-                watch.close();
+            if is_short_line(self.lines.get(a as usize)) {
+                return Some(PortName::LineIn(a));
             }
-            self.lines.push(watch)?;
-            self.bays
-                .set_line_in(a, InPlaceOf::Live(LiveSource::new(self.alloc), 0));
-            self.bays
-                .set_line_out(a, OutPlaceOf::Live(LiveSink::new(self.alloc), 0));
         }
         for n in 0..CLIENTS as u8 {
-            let fcs = match client_connection(&self.plan, n) {
-                Some(connection) => connection.fcs,
-                None => false,
-            };
-            let mut watch = ClientWatch::new(fcs);
-            if !self.node.ready(PortName::ClientIn(n)) {
-                watch.close();
-            }
-            self.clients.push(watch)?;
-            self.bays
-                .set_client_in(n, InPlaceOf::Live(LiveSource::new(self.alloc), 0));
-            self.bays
-                .set_client_out(n, OutPlaceOf::Live(LiveSink::new(self.alloc), 0));
-        }
-        Ok(())
-    }
-
-    // ---- a turn
-
-    // The first line whose turn wants a frame that was not handed in.
-    fn short_line(&self) -> Option<u8> {
-        for a in 0..LINES as u8 {
-            let Some(watch) = self.lines.get(a as usize) else {
-                continue;
-            };
-            if !watch.covers_turn() {
-                return Some(a);
+            if is_short_client(self.clients.get(n as usize)) {
+                return Some(PortName::ClientIn(n));
             }
         }
         None
     }
 
-    // Fills the turn of each client that has too few packets.
-    fn fill_clients(&mut self) -> Result<(), Memory> {
-        let turn = self.node.turn();
-        for n in 0..CLIENTS as u8 {
-            let Some(connection) = client_connection(&self.plan, n) else {
-                continue;
-            };
-            let Some(pace) = pace_in(connection, turn) else {
-                continue;
-            };
-            let Some(watch) = self.clients.get_mut(n as usize) else {
-                continue;
-            };
-            watch.begin_turn(pace);
-            fill(self.alloc, watch, self.bays.client_in_mut(n))?;
-        }
-        Ok(())
-    }
+    // ---- the watches of the inputs
 
-    // What came until now was handed out.
-    fn let_go_of_outputs(&mut self) {
-        for b in 0..LINES as u8 {
-            let_go(self.bays.line_out_mut(b));
-        }
-        for n in 0..CLIENTS as u8 {
-            let_go(self.bays.client_out_mut(n));
+    fn is_open_line(&self, a: u8) -> bool {
+        match self.lines.get(a as usize) {
+            Some(watch) => watch.is_open(),
+            None => false,
         }
     }
 
-    // The inputs of this turn, its end, and the outputs of the next.
-    fn pass_turn(&mut self)
-        ensures stands { GoesOn self.old.node self.new.node
-            (bays_view ⟦<LiveSource as Source>⟧ ⟦<LiveSink as Sink>⟧ self.old.bays)
-            (bays_view ⟦<LiveSource as Source>⟧ ⟦<LiveSink as Sink>⟧ self.new.bays) }
-    {
-        self.serve_inputs();
-        self.fence();
-        self.serve_outputs();
-    }
-
-    // All pieces of the inputs in this turn.
-    fn serve_inputs(&mut self)
-        ensures stands { GoesOn self.old.node self.new.node
-            (bays_view ⟦<LiveSource as Source>⟧ ⟦<LiveSink as Sink>⟧ self.old.bays)
-            (bays_view ⟦<LiveSource as Source>⟧ ⟦<LiveSink as Sink>⟧ self.new.bays) }
-    {
-        self.serve_ports(0, 4);
-        self.serve_ports(8, 24);
-    }
-
-    // All pieces of the outputs in this turn.
-    fn serve_outputs(&mut self)
-        ensures stands { GoesOn self.old.node self.new.node
-            (bays_view ⟦<LiveSource as Source>⟧ ⟦<LiveSink as Sink>⟧ self.old.bays)
-            (bays_view ⟦<LiveSource as Source>⟧ ⟦<LiveSink as Sink>⟧ self.new.bays) }
-    {
-        self.serve_ports(4, 8);
-        self.serve_ports(24, 40);
-    }
-
-    // All pieces of some ports, by their numbers among all.
-    fn serve_ports(&mut self, from: u8, to: u8)
-        requires { to ≤ 40 }
-        ensures stands { GoesOn self.old.node self.new.node
-            (bays_view ⟦<LiveSource as Source>⟧ ⟦<LiveSink as Sink>⟧ self.old.bays)
-            (bays_view ⟦<LiveSource as Source>⟧ ⟦<LiveSink as Sink>⟧ self.new.bays) }
-    {
-        for i in from..to {
-            self.serve(port_at(i));
+    fn is_open_client(&self, n: u8) -> bool {
+        match self.clients.get(n as usize) {
+            Some(watch) => watch.is_open(),
+            None => false,
         }
     }
 
-    // All pieces of a port in this turn.
-    fn serve(&mut self, port: PortName)
-        ensures stands { GoesOn self.old.node self.new.node
-            (bays_view ⟦<LiveSource as Source>⟧ ⟦<LiveSink as Sink>⟧ self.old.bays)
-            (bays_view ⟦<LiveSource as Source>⟧ ⟦<LiveSink as Sink>⟧ self.new.bays) }
+    // Frames of a line are to be handed in.
+    fn note_line(&mut self, a: u8, frames: &[u8]) -> Result<(), Memory>
+        ensures { IsStill self.old.node self.new.node (places self.old.bays) (places self.new.bays) }
     {
-        for _ in 0..MOST_SLOTS {
-            self.serve_once(port);
+        match self.lines.get_mut(a as usize) {
+            Some(watch) => watch.note(frames),
+            None => Ok(()),
         }
     }
 
-    // The next piece of a port, where it has one.
-    #[tactic(auto, using(crate::proofs::Going::goes_none))]
-    fn serve_once(&mut self, port: PortName)
-        ensures stands { GoesOn self.old.node self.new.node
-            (bays_view ⟦<LiveSource as Source>⟧ ⟦<LiveSink as Sink>⟧ self.old.bays)
-            (bays_view ⟦<LiveSource as Source>⟧ ⟦<LiveSink as Sink>⟧ self.new.bays) }
+    // They were, with this answer.
+    fn line_answered(&mut self, a: u8, answer: &Result<HandedIn, Memory>, frames: &[u8])
+        ensures { IsStill self.old.node self.new.node (places self.old.bays) (places self.new.bays) }
     {
-        if self.node.ready(port) {
-            self.node.step(port, &mut self.bays);
-        }
-    }
-
-    // Ends the turn: all of its pieces are done.
-    #[tactic(auto, using(node_moments::proofs::Later::none_ready, crate::proofs::Going::goes_none))]
-    fn fence(&mut self)
-        ensures stands { GoesOn self.old.node self.new.node
-            (bays_view ⟦<LiveSource as Source>⟧ ⟦<LiveSink as Sink>⟧ self.old.bays)
-            (bays_view ⟦<LiveSource as Source>⟧ ⟦<LiveSink as Sink>⟧ self.new.bays) }
-    {
-        let count = self.node.ready_count();
-        if count == 0 {
-            if !self.node.finished() {
-                self.node.fence(&mut self.bays);
+        if let Some(watch) = self.lines.get_mut(a as usize) {
+            match answer {
+                Ok(HandedIn::Taken) => {}
+                Ok(_) => watch.close(),
+                Err(_) => watch.take_back(frames),
             }
         }
     }
 
-    // The turn of each line is done.
-    fn end_lines(&mut self) {
-        for watch in self.lines.iter_mut() {
-            watch.end_turn();
+    // A text was handed in at a client, with this answer.
+    fn client_answered(&mut self, n: u8, answer: &Result<HandedIn, Memory>, text: &[u8])
+        ensures { IsStill self.old.node self.new.node (places self.old.bays) (places self.new.bays) }
+    {
+        if let Some(watch) = self.clients.get_mut(n as usize) {
+            match answer {
+                Ok(HandedIn::Taken) => watch.note(text),
+                Ok(_) => watch.close(),
+                Err(_) => {}
+            }
         }
     }
 }
 
-// Hands in bytes at a line input.
-fn hand_in_line_at(
-    bays: &mut Rack<LiveSource, LiveSink>,
-    a: u8,
-    frames: &[u8],
-) -> Result<HandedIn, Memory>
-    requires { a < 4 }
-    ensures grew { result ≡ Ok HandedIn.Taken → LineGrew a frames.now
-        (bays_view ⟦<LiveSource as Source>⟧ ⟦<LiveSink as Sink>⟧ bays.old)
-        (bays_view ⟦<LiveSource as Source>⟧ ⟦<LiveSink as Sink>⟧ bays.new) }
-{
-    hand_in(bays.line_in_mut(a), frames)
+fn is_short_line(watch: Option<&LineWatch>) -> bool {
+    match watch {
+        Some(watch) => !watch.covers_turn(),
+        None => false,
+    }
 }
 
-// Hands in bytes at a place.
-fn hand_in(place: &mut InPlaceOf<LiveSource>, bytes: &[u8]) -> Result<HandedIn, Memory>
-    ensures taken { result ≡ Ok HandedIn.Taken → in_view ⟦<LiveSource as Source>⟧ place.new
-        ≡ grown bytes.now (in_view ⟦<LiveSource as Source>⟧ place.old) }
-    ensures none { result ≢ Ok HandedIn.Taken → in_view ⟦<LiveSource as Source>⟧ place.new
-        ≡ in_view ⟦<LiveSource as Source>⟧ place.old }
-{
-    match place {
-        InPlaceOf::Live(source, _) => {
-            source.hand_in(bytes)?;
-            Ok(HandedIn::Taken)
+fn is_short_client(watch: Option<&ClientWatch>) -> bool {
+    match watch {
+        Some(watch) => !watch.covers_turn(),
+        None => false,
+    }
+}
+
+// The watches of all lines in; one that the plan does not use has ended.
+fn line_watches(alloc: Global, plan: &Plan, node: &Node) -> Result<Vec<LineWatch>, Memory> {
+    let mut watches = Vec::new(alloc);
+    for a in 0..LINES as u8 {
+        let kind = kind_of(&plan.otu3_in, a);
+        let scrambled = plan.scrambled_in.as_slice().contains(&a);
+        let mut watch = LineWatch::new(alloc, kind, scrambled);
+        if !node.ready(PortName::LineIn(a)) {
+            watch.close();
         }
-        InPlaceOf::Empty => Ok(HandedIn::NoInput),
-        InPlaceOf::Dead(..) => Ok(HandedIn::NoInput),
+        watches.push(watch)?;
     }
+    Ok(watches)
 }
 
-// Fills in packets of bytes 0, where there are too few, and empty lines up to the end of a block.
-fn fill(
-    alloc: Global,
-    watch: &mut ClientWatch,
-    place: &mut InPlaceOf<LiveSource>,
-) -> Result<(), Memory> {
-    for _ in 0..MOST_SLOTS {
-        let bytes = watch.missing();
-        if bytes == 0 {
-            break;
+// The watches of all clients in; one that the plan does not use has ended.
+fn client_watches(alloc: Global, plan: &Plan) -> Result<Vec<ClientWatch>, Memory> {
+    let mut watches = Vec::new(alloc);
+    for n in 0..CLIENTS as u8 {
+        watches.push(client_watch(plan, n))?;
+    }
+    Ok(watches)
+}
+
+fn client_watch(plan: &Plan, n: u8) -> ClientWatch {
+    match client_connection(plan, n) {
+        Some(connection) => {
+            let mut watch = ClientWatch::new(connection.fcs);
+            watch.begin_turn(pace_in(connection, 1));
+            watch
         }
-        let mut text = vec![in alloc; b'0'; bytes.saturating_mul(2)]?;
-        text.push(b'\n')?;
-        watch.note(&text);
-        let _ = hand_in(place, &text)?;
-    }
-    let rest = vec![in alloc; b'\n'; watch.rest_of_block()]?;
-    watch.note(&rest);
-    let _ = hand_in(place, &rest)?;
-    Ok(())
-}
-
-// What came at a place since it last let go.
-fn fresh(place: &OutPlaceOf<LiveSink>) -> &[u8] {
-    match place {
-        OutPlaceOf::Live(sink, _) => sink.fresh(),
-        OutPlaceOf::Empty => &[],
-        OutPlaceOf::Dead(..) => &[],
+        None => {
+            let mut watch = ClientWatch::new(false);
+            watch.close();
+            watch
+        }
     }
 }
 
-fn let_go(place: &mut OutPlaceOf<LiveSink>)
-    ensures { out_view ⟦<LiveSink as Sink>⟧ place.new ≡ out_view ⟦<LiveSink as Sink>⟧ place.old }
-{
-    match place {
-        OutPlaceOf::Live(sink, _) => sink.let_go(),
-        OutPlaceOf::Empty => {}
-        OutPlaceOf::Dead(..) => {}
+// The turn of each line is done.
+fn end_lines(watches: &mut Vec<LineWatch>) {
+    for watch in watches.iter_mut() {
+        watch.end_turn();
+    }
+}
+
+// A turn of each client begins.
+fn begin_clients(watches: &mut Vec<ClientWatch>, plan: &Plan, turn: u32) {
+    for connection in plan.connections.as_slice() {
+        if let FromEnd::Client(n) = &connection.from {
+            if let Some(watch) = watches.get_mut(*n as usize) {
+                watch.begin_turn(pace_in(connection, turn));
+            }
+        }
     }
 }
 
@@ -436,15 +379,22 @@ fn client_connection(plan: &Plan, n: u8) -> Option<&Connection> {
     None
 }
 
-// How many bytes a connection takes of its client in this turn of the plan; none where it is not active.
-fn pace_in(connection: &Connection, turn: u32) -> Option<u64> {
+// How many bytes a connection takes of its client in this turn of the plan: none where it is not active.
+fn pace_in(connection: &Connection, turn: u32) -> u64 {
     if turn < connection.start || turn > connection.stop {
-        return None;
+        return 0;
     }
     let list = connection.pace.as_slice();
     let at = (turn - connection.start) as usize;
-    match list.get(at.checked_rem(list.len())?) {
-        Some(pace) => Some(*pace as u64),
-        None => None,
+    match at.checked_rem(list.len()) {
+        Some(n) => pace_at(list, n),
+        None => 0,
+    }
+}
+
+fn pace_at(list: &[u32], n: usize) -> u64 {
+    match list.get(n) {
+        Some(pace) => *pace as u64,
+        None => 0,
     }
 }

@@ -1,0 +1,33 @@
+use Rattle.std.proofs.Common.{◌≡◌, false, ◌∙◌, refl, arith}
+use Rattle.otn_base.specs.declared.kind.PortName.TheVariants as port
+use Rattle.otn_ports.specs.Racks.{bays_view}
+use Rattle.node_moments.specs.NodeView.{is_ready}
+use Rattle.network_core.proofs.Growth.{leads_twice, stays}
+use Rattle.live_node.proofs.Opening.{extended}
+use Rattle.live_node.proofs.Served.{stays_none, stays_twice}
+use Rattle.live_node.proofs.serving.serve_clients.Goals as goal
+
+pub loop-n-init : goal.loop-n-init
+loop-n-init g c = record {
+  stands = stays c.args.node.now (bays_view g.P.Source g.K.Sink c.args.bays.now);
+  turns = refl;
+  past = refl;
+  kept = stays_none c.args.node.now;
+  served = λ m none. absurd (omega arith);
+}
+
+pub loop-n-preserved : goal.loop-n-preserved
+loop-n-preserved g c =
+    let e = c.serve.ensures in
+    let i = c.loop-n.invariant in
+    let first = bays_view g.P.Source g.K.Sink c.args.bays.now in
+    let was = bays_view g.P.Source g.K.Sink c.loop-n.bays in
+    let is = bays_view g.P.Source g.K.Sink c.serve.new.bays in
+    record {
+      stands = leads_twice c.args.node.now c.loop-n.node c.serve.new.node first was is i.stands e.stands;
+      turns = e.turns ∙ i.turns;
+      past = e.past ∙ i.past;
+      kept = stays_twice c.args.node.now c.loop-n.node c.serve.new.node i.kept e.kept;
+      served = extended (λ m. is_ready c.serve.new.node (port.ClientOut m) ≡ false) c.loop-n.n
+          (λ m less. e.kept (port.ClientOut m) (i.served m less)) e.served;
+    }

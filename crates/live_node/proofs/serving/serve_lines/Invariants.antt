@@ -1,0 +1,16 @@
+use Rattle.std.proofs.Common.{◌≡◌, ◌<◌, ℕ, false}
+use Rattle.otn_base.specs.declared.kind.PortName.TheVariants as port
+use Rattle.otn_ports.specs.Racks.{bays_view}
+use Rattle.node_moments.specs.NodeView.{is_ready}
+use Rattle.network_core.specs.Turns.{LeadsLater}
+use Rattle.live_node.specs.Served.{StaysServed}
+use Rattle.live_node.proofs.serving.serve_lines.Given as goal
+
+abbrev pub invariant-loop-b : goal.invariant-loop-b
+invariant-loop-b g l = record {
+  stands : LeadsLater l.fn.node (bays_view g.P.Source g.K.Sink l.fn.bays) l.node (bays_view g.P.Source g.K.Sink l.bays);
+  turns : l.node.turns ≡ l.fn.node.turns;
+  past : l.node.past ≡ l.fn.node.past;
+  kept : StaysServed l.fn.node l.node;
+  served : (m : ℕ) → m < l.b → is_ready l.node (port.LineOut m) ≡ false;
+}
