@@ -45,9 +45,10 @@ the line that brings them, and on nothing else. That is proved of the library, a
 It is tested and not proved of what is handed out of a client output that its plan retires (`retire = true`). No proof
 speaks of this file, which is tested too.
 
-**The library** is looked for where the environment's OTN_LIBRARY says, else as libotn.so beside this file, where
-`library/build python` makes it. A call keeps nothing for the next one, and lets other threads run; so calls of several
-threads run side by side. Python 3.9 or later, and nothing beside its standard library.
+**The library** is looked for where the environment's OTN_LIBRARY says. Else it is libotn.so beside this file, where
+`library/build python` makes it and where a wheel has it. Else it is the system's libotn.so.1, of the package libotn1. A
+call keeps nothing for the next one, and lets other threads run; so calls of several threads run side by side. Python
+3.9 or later, and nothing beside its standard library.
 
 `python3 python/otn.py` tries all the examples in this file.
 """
@@ -311,9 +312,11 @@ class _Answer(ctypes.Structure):
 
 @functools.lru_cache(maxsize=None)
 def _library() -> ctypes.CDLL:
-    path = os.environ.get("OTN_LIBRARY") or str(pathlib.Path(__file__).with_name("libotn.so"))
+    beside = pathlib.Path(__file__).with_name("libotn.so")
+    named = os.environ.get("OTN_LIBRARY") or (str(beside) if beside.exists() else "")
+    path = os.path.abspath(named) if named else f"libotn.so.{VERSION}"
     try:
-        library = ctypes.CDLL(os.path.abspath(path))
+        library = ctypes.CDLL(path)
     except OSError as why:
         raise OSError(f"{why} (library/build python makes it; OTN_LIBRARY says where it is)") from why
     read, write, number = ctypes.c_char_p, ctypes.c_void_p, ctypes.c_size_t
