@@ -1,4 +1,4 @@
-"""Where the bytes of a client's frames stand in a line: what the messages of a tributary say, and which bytes they name.
+"""Where the bytes of a client's frames stand in a line, by the messages of its tributary.
 
 >>> import otn
 >>> plan = '''

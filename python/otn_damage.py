@@ -23,7 +23,7 @@ WHAT, the whole frame without it:
     jc    cnd    msi          of all slots: JC1 to JC3, JC4 to JC6, the MSI bytes
     jc of slot 3    payload of slots 2,4    msi of port 2    payload of customer north
     any of port 2             all places that it has: payload, jc, cnd and msi
-    odu fas of port 2         of the client frames that it carries; likewise odu mfas, odu tti, odu bip8, odu stat, odu psi
+    odu fas of port 2         of the client frames that it carries; also odu mfas, odu tti, odu bip8, odu stat, odu psi
     row 3 column 10    row 1 columns 10-14
     any but any of port 2 but mfas    payload but payload of slot 3
 
@@ -64,15 +64,17 @@ FEW = 32  # runs of a place that are written one by one
 
 _WHERE = r"(?:(?P<base>frame|turn)s? (?P<first>\d+)(?P<to>-(?P<last>\d*))? )?" \
     r"(?:every (?P<every>\d+) (?P<unit>frame|turn)s? )?(?:some (?P<some>\d+) frames? )?"
-_HOW = r"(?:(?P<name>xor|set) (?P<hex>(?:[0-9a-fA-F]{2})+)|stat (?P<signal>AIS|LCK|OCI)(?: of (?P<whose>.+))?|ber (?P<rate>[0-9.eE+-]+)" \
-    r"|burst (?P<bits>\d+) bits?|slip (?P<slip>[+-]\d+) bytes?|(?P<noise>noise)|(?P<alone>drop|repeat|ais))"
+_HOW = r"(?:(?P<name>xor|set) (?P<hex>(?:[0-9a-fA-F]{2})+)|stat (?P<signal>AIS|LCK|OCI)(?: of (?P<whose>.+))?" \
+    r"|ber (?P<rate>[0-9.eE+-]+)|burst (?P<bits>\d+) bits?" \
+    r"|slip (?P<slip>[+-]\d+) bytes?|(?P<noise>noise)|(?P<alone>drop|repeat|ais))"
 _DAMAGE = re.compile(rf"{_WHERE}(?:(?P<what>[a-z].*?) )?{_HOW}")
 _CHANGE = re.compile(r"frame (\d+) byte (\d+)(?: step (\d+))? from ([0-9a-f]+|-) to ([0-9a-f]+|-)")
 
 
 class Change(NamedTuple):
-    """Bytes that are others now. They stand at byte `byte` of the file and each `step` bytes on; where there are more or
-    fewer of them than before, those behind have moved. Byte and frame are those of the file with all changes before."""
+    """Bytes that are others now. They stand at byte `byte` of the file and each `step` bytes on; where there are more
+    or fewer of them than before, those behind have moved. Byte and frame are those of the file with all changes before.
+    """
 
     frame: int
     byte: int
@@ -350,8 +352,9 @@ class _Step:
             drawn = put if put is not None else noise[n * size : (n + 1) * size]
             for run in place.runs:
                 now = drawn[run.first : run.first + run.stride * len(run) : run.stride]
-                where = slice(FRAME * f + run.start, FRAME * f + run.stop, run.step)
-                yield where.start, self._over(data[where], keep, now, self.mask[run.start : run.stop : run.step]), run.step
+                where, masked = FRAME * f + run.start, self.mask[run.start : run.stop : run.step]
+                old = data[where : FRAME * f + run.stop : run.step]
+                yield where, self._over(old, keep, now, masked), run.step
 
     def _at_once(
         self, data: bytearray, place: Place, frames: List[int], keep: int, put: Optional[bytes]

@@ -39,8 +39,9 @@ class Event:
 
     turn: int
     who: str  #: "line", "slot 3", or the label of a tributary: its name in the plan, or the words "2:4,5"
-    what: str  #: "whole", "lost multiframe", "no multiframe", "end", "passed over", "errors", "port", "no port", "msi", \
-    #: "up" or "down"
+    #: "whole", "lost multiframe", "no multiframe", "end", "passed over", "errors" of the line; "port", "no port" or
+    #: "msi" of a slot; "up" or "down" of a tributary
+    what: str
     words: str  #: all that is said behind the turn
     cause: str = ""  #: why it is down
 
@@ -149,8 +150,8 @@ class _Slots:
     def take(self, turn: TurnView) -> Iterator[str]:
         for slot, byte in turn.msi.items():
             if self.last.get(slot) != byte:
-                port = f"port {byte - 0x7F}" if 0x80 <= byte < 0xC0 else "no port" if byte == 0xC0 else f"msi {byte:02x}"
-                yield f"{port} in slot {slot}"
+                other = "no port" if byte == 0xC0 else f"msi {byte:02x}"
+                yield f"{f'port {byte - 0x7F}' if 0x80 <= byte < 0xC0 else other} in slot {slot}"
             self.last[slot] = byte
             for name, heard in turn.tributaries.items():
                 if slot in heard.slots:

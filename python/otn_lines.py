@@ -194,12 +194,16 @@ def _toml(plan: Union[str, bytes]) -> Any:
 class Line:
     """A line in memory. The bytes are kept and not changed.
 
-    `tributaries` are those of a plan, where `planned` has found them. Else they are those that most MSI bytes of the line
-    tell, and of two that come as often the later one.
+    `tributaries` are those of a plan, where `planned` has found them. Else they are those that most MSI bytes of the
+    line tell, and of two that come as often the later one.
     """
 
     def __init__(
-        self, data: Bytes, otu3: bool = False, scrambled: bool = False, tributaries: Optional[Sequence[Tributary]] = None
+        self,
+        data: Bytes,
+        otu3: bool = False,
+        scrambled: bool = False,
+        tributaries: Optional[Sequence[Tributary]] = None,
     ) -> None:
         self.data = data
         self.slots = 32 if otu3 else 8  #: the tributary slots, and the frames of a multiframe
@@ -307,14 +311,15 @@ class Line:
         found = [t for t in self.tributaries if t.name == name]
         if not found:
             names = ", ".join(t.name for t in self.tributaries if t.name)
-            raise ValueError(f"no customer {name!r} on this line; " + (f"there are {names}" if names else "give its plan"))
+            there = f"there are {names}" if names else "give its plan"
+            raise ValueError(f"no customer {name!r} on this line; {there}")
         return found
 
     def places(self, name: str) -> List[Place]:
         """The places of a name, as `otn.damage` says it: "sm bip8", "jc of port 2", "payload of slots 4,5",
         "msi of customer north", "row 3 columns 10-12". "any of port 2" are all places that this tributary has, and
-        "any but any of port 2 but mfas" is the frame without these and without MFAS. "odu stat of port 2" are the status
-        bytes of the client frames that the tributary carries.
+        "any but any of port 2 but mfas" is the frame without these and without MFAS. "odu stat of port 2" are the
+        status bytes of the client frames that the tributary carries.
 
         >>> import otn
         >>> otn.lines.Line(b"").places("jc of slot 3")[0]
@@ -355,8 +360,11 @@ Run(start=8175, stop=8176, step=1, first=2, stride=1)), mfas=(2,), modulus=8, tu
             if not 1 <= slots[0] <= slots[-1] <= self.slots:
                 raise ValueError(f"the line has slots 1 to {self.slots}: {name!r}")
             return [self._place(name, what, slots, slots, None)]
-        found = self.of(whose)
-        return [self._place(name, what, t.slots, t.slots[-1:], None if t.stop >> 62 else (t.start, t.stop)) for t in found]
+        found = []
+        for t in self.of(whose):
+            turns = None if t.stop >> 62 else (t.start, t.stop)
+            found.append(self._place(name, what, t.slots, t.slots[-1:], turns))
+        return found
 
     def of(self, whose: str) -> List[Tributary]:
         """The tributaries of "port 2" or "customer north"."""

@@ -115,11 +115,9 @@ def test_packets(
     start: int = 1,
     fcs: bool = True,
 ) -> List[bytes]:
-    """The packets of a client: so many, or as many as begin in so many turns.
-
-    `sizes` are the least and the greatest length, between which each is drawn. `rate` is the part of the client's
-    bytes that they take; packets of zeros take the rest. `slots`, `pace`, `start` and `fcs` are those of the
-    connection in the plan, and say in which turn each packet leaves.
+    """The packets of a client: so many, or as many as begin in so many turns. Lengths are drawn between two `sizes`.
+    `rate` is the part of the client's bytes that they take; packets of zeros take the rest. `slots`, `pace`, `start`
+    and `fcs` are those of the connection in the plan, and say in which turn each packet leaves.
     """
     least, most = sizes
     if not LEAST <= least <= most <= 65_523:
@@ -189,8 +187,8 @@ class Counts:
     bits: int  #: bits that came and were compared
     changed_bits: int
     delay: Optional[Tuple[int, int, int]]  #: least, median and most turns, where the turns are known in which they came
-    disruption: Tuple[int, int, int]  #: the most turns in a row in which none came, the first and the last of them; else 0
-    burst: Tuple[int, int, int]  #: the most numbers in a row that did not come, the first and the last of them; else 0
+    disruption: Tuple[int, int, int]  #: the most turns in a row in which none came, the first of them, the last; or 0
+    burst: Tuple[int, int, int]  #: the most numbers in a row that did not come, the first of them, the last; or 0
 
     def __repr__(self) -> str:
         behind = "?" if self.behind is None else self.behind
