@@ -52,7 +52,7 @@ function sharedWords(base) {
   const rows = fibres.map(x => {
     const f = net.fibres[x], on = othersOn(f, base);
     on.forEach(([other]) => others.add(other));
-    const words = on.flatMap(([other, slots]) => [customerLink(other), `${slotsText(slots)}; `]);
+    const words = on.flatMap(([other, slots]) => [customerLink(other), ` ${slotsText(slots)}; `]);
     return [
       link(`${f.a} → ${f.b}`, {kind: 'fibre', fibre: x}), slotsText(slotsOn(f, base)), words.length ? words : 'none'
     ];

@@ -99,8 +99,8 @@ function messageWords(message) {
 
 function messageMeans(message, turned) {
   const {heard} = message, next = `It is the Cm of the groups of turn ${state.turn + 2}.`;
-  const stands =
-    heard.cm === null ? 'The sink has no Cm.' : `Cm ${heard.cm} and CnD ${heard.cnd} of the turn before stand.`;
+  const stands = heard.cm === null ? `The sink is ${heard.state}${heard.why ? `: ${heard.why}` : ''}.`
+                                                                            : `Cm ${heard.cm} and CnD ${heard.cnd} of the turn before stand.`;
   if (heard.message === 'damaged') return [span('wrong', 'damaged'), ` ${stands}`];
   if (heard.why === 'base lost') return [span('wrong', 'base lost'), ' The inverted bits fit no number.'];
   if (heard.message === 'base lost') return ['Inverted bits, and the sink has no number that they would be against.'];

@@ -17,7 +17,7 @@ function makePackets() {
   const only = el('input',
     {type: 'checkbox', id: 'only', on: {change: event => setPackets({only: event.target.checked, from: null})}});
   return [
-    el('p', {class: 'left-out'}, 'Packets are left out: they are read by a script, and this is not proved.'),
+    el('div', {class: 'left-out'}, el('p', {}, 'Packets are left out: a script reads them, and this is not proved.')),
     el('div', {class: 'unproved'},
       el('div', {class: 'bar'}, customerChoice('packets-of', true, customer => setPackets({customer, from: null})),
         el('label', {}, only, ' this turn only')),
@@ -86,7 +86,7 @@ function drawPackets() {
 function packetRow(p) {
   const {turn, of, length} = line.packets, t = line.tributaries[of[p]];
   const kind = p === state.packet ? 'on' : turn[p] === state.turn + 1 ? 'now' : '';
-  return el('tr', {'data-i': p, class: kind, 'aria-selected': p === state.packet ? 'true' : null},
+  return el('tr', {'data-i': p, class: kind, 'aria-current': p === state.packet ? 'true' : null},
     el('td', {}, `${turn[p]}`), el('td', {}, swatch(t.colour), nameOf(t)), el('td', {class: 'wrap'}, packetCell(p)),
     el('td', {}, grouped(length[p])), el('td', {}, fcsOf(p)));
 }

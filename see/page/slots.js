@@ -192,5 +192,5 @@ function drawLegend() {
   $('legend').replaceChildren(...seen, key('up, Cm 0', blue, .3), key('waiting', blue, .2),
     key('down', look['bad-fill'], 1, true), ...signals, key('free', look.pale), ...marks,
     span('', span('bad', '□'), ' MSI wrong'), span('push'),
-    span('', 'wheel: zoom · drag: move · click: look · ? for keys'));
+    span('hint', 'wheel: zoom · drag: move · click: look · ? for keys'));
 }

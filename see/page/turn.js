@@ -22,6 +22,7 @@ function drawTurn() {
   $('turn-told').replaceChildren(...turnTold(turn));
   $('turn-before').disabled = state.turn === 0;
   $('turn-next').disabled = state.turn === line.turns - 1;
+  if (state.proved) drawSinks();
   keepFocus($('frames'), drawFrames);
   intoSight($('frames').parentElement, $('frames').querySelector('tr.on'));
 }
@@ -33,6 +34,21 @@ function turnTold(turn) {
   if (turn.lead) words.push(`, ${turn.lead} of them passed over`);
   if (wrong.length) words.push(' · ', span('bad', wrong.join(', ')));
   return words;
+}
+
+// The sinks after this turn, as otn_view tells them.
+function drawSinks() {
+  const there = line.tributaries.filter(t => heardAt(t, state.turn) >= 0),
+        dash = value => (value === null ? '–' : `${value}`);
+  const rows = there.map(t => {
+    const h = heardOf(t, state.turn), cells = [
+      `${t.port}`, t.slotsText, span(h.state === 'down' ? 'bad' : '', h.state), dash(h.cm), dash(h.cnd),
+      grouped(h.emitted)
+    ];
+    return el('tr', {}, el('td', {}, swatch(t.colour), nameOf(t)), cells.map(cell => el('td', {}, cell)));
+  });
+  fill($('sinks'), `Sinks after turn ${state.turn + 1}`,
+    ['customer', 'port', 'slots', 'sink', 'Cm', 'CnD', 'bytes emitted'], rows);
 }
 
 function drawFrames() {
@@ -52,7 +68,7 @@ function frameRow(f) {
     frame.psi, frame.slot || '', ...messageCells(message, frame.slot)
   ];
   return el('tr',
-    {'data-i': f, class: f === state.frame ? 'on' : '', 'aria-selected': f === state.frame ? 'true' : null},
+    {'data-i': f, class: f === state.frame ? 'on' : '', 'aria-current': f === state.frame ? 'true' : null},
     cells.map((cell, x) => el('td', {class: [1, 3, 4, 5, 6, 11, 12].includes(x) ? 'mono' : null}, cell)));
 }
 
