@@ -5,7 +5,8 @@ ghost use Rattle.otn_c.specs.Blocks.{IsNoPart, part_of};
 /// Part n of a block. None where it would end before it begins, or behind the block.
 pub(crate) fn part<'a>(block: &'a [u8], ends: &[usize], n: usize) -> Option<&'a [u8]>
     requires { n < length ends.now }
-    ensures bytes { MatchOption result (IsNoPart block.now ends.now n) (λ bytes. bytes.now ≡ part_of block.now ends.now n) }
+    ensures bytes { MatchOption result (IsNoPart block.now ends.now n)
+        (λ bytes. bytes.now ≡ part_of block.now ends.now n) }
     ensures part { OnSome result (IsNoPart block.now ends.now n → ⊥) }
 {
     let start = if n == 0 { 0 } else { ends[n - 1] };

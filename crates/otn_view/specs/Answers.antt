@@ -27,8 +27,8 @@ abbrev pub IsAnswerTo : Result Viewed NoMemory → Result Status NoMemory → Ty
 IsAnswerTo (Ok viewed) answer = answer ≡ Ok (viewed_status viewed)
 IsAnswerTo (Err memory) answer = answer ≡ Err memory
 
--- What is asked for was viewed: a line of the form that is given, with its tributaries, or the line of the plan with its
--- connections. Of the first the plan's source is as it was.
+-- What is asked for was viewed: a line of the form that is given, with its tributaries, or the line of the plan with
+-- its connections. Of the first the plan's source is as it was.
 abbrev pub IsViewed : Asked → (plan_old plan_new : SourceView) → (first now : InView) → (old new : SinkView)
     → Result Status NoMemory → Type 0
 IsViewed (Given kind scrambled shown) plan_old plan_new first now old new answer = (ended : Ended)

@@ -13,8 +13,8 @@ use otn_ports::{InPlaceOf, Sink, Source};
 use plan_views::{Viewed, view_by_plan};
 use std::alloc::Global;
 
-/// Writes the view that is asked for: of a line of the form that is given, or of the one that the plan says. The plan is
-/// read where it is asked for alone.
+/// Writes the view that is asked for: of a line of the form that is given, or of the one that the plan says. The plan
+/// is read where it is asked for alone.
 pub(crate) fn answer<P: Source, I: Source, K: Sink>(
     alloc: Global,
     asked: &Asked,

@@ -149,9 +149,9 @@ pub record ShareInputUpTo (n : ℕ) (one other : Run) (x : Connection) : Type 0 
   pub second : Contains other.plan.connections x
   pub agree : AgreeOnInputUpTo x.from x n one other
 
--- What left on a connection is the same in both so far, whatever its input shows from own turn n on, from 0: to its client
--- the same text, where it has no own turn behind that; on its line the same bytes at its own places, up to the frames
--- of own turn n.
+-- What left on a connection is the same in both so far, whatever its input shows from own turn n on, from 0: to its
+-- client the same text, where it has no own turn behind that; on its line the same bytes at its own places, up to the
+-- frames of own turn n.
 pub record SameOutputUpTo (n : ℕ) (one other : Run) (x : Connection) : Type 0 where
   pub client : (m : ℕ) (written others : List ℕ) → x.to ≡ to_end.Client m → x.stop - first_turn x ≤ n + 1
       → ClientGot one m written
