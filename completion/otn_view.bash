@@ -4,9 +4,10 @@ _otn_view() {
     local word=${COMP_WORDS[COMP_CWORD]} words=
     case $COMP_CWORD,${COMP_WORDS[2]} in
         1,*) mapfile -t COMPREPLY < <(compgen -f -W "--help" -- "$word"); return ;;
-        2,*) words="in out otu3 scrambled" ;;
+        2,*) words="in out otu3 scrambled events" ;;
         3,in | 3,out) words="0 1 2 3" ;;
-        3,otu3) words="scrambled" ;;
+        3,otu3) words="scrambled events" ;;
+        *) words="events" ;;
     esac
     mapfile -t COMPREPLY < <(compgen -W "$words" -- "$word")
 }

@@ -39,6 +39,15 @@ maps : {A B : Type 0} (f : A → B) (xs ys : List A) → map f (xs ++ ys) ≡ ma
 maps f [] ys = refl
 maps f (x ∷ xs) ys = ap (λ t. f x ∷ t) (maps f xs ys)
 
+-- the last word, and those in front of it
+pub last_word : (words : List (String Global)) (last : String Global) (word : List ℕ) → 1 ≤ length words → last ≡ get_or words (length words - 1) last → string_bytes last ≡ word
+    → texts words ≡ texts (take (length words - 1) words) ++ word ∷ []
+last_word words last word some is same =
+    let known = known_item words (length words - 1) last (omega (arith, some)) is in
+    let all : length words ≡ (length words - 1) + 1 = omega (arith, some) in
+    ap texts (sym (take-length words) ∙ ap (λ n. take n words) all ∙ take_on words (length words - 1) last known) ∙ maps string_bytes (take (length words - 1) words) (last ∷ [])
+    ∙ ap (λ w. texts (take (length words - 1) words) ++ w ∷ []) same
+
 last_or : {A : Type 0} (xs : List A) (x y : A) (i : ℕ) → slice_get (xs ++ x ∷ []) i ≡ Some y → (slice_get xs i ≡ Some y) ⊎ (x ≡ y)
 last_or [] x y zero e = inr (same_Some x y e)
 last_or [] x y (suc i) e = absurd (let less = slice_get_within [] i y e in omega arith)

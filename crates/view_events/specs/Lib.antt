@@ -1,0 +1,2 @@
+pub mod EventPorts
+pub mod Reporting
