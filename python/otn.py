@@ -45,6 +45,10 @@ the line that brings them, and on nothing else. That is proved of the library, a
 It is tested and not proved of what is handed out of a client output that its plan retires (`retire = true`). No proof
 speaks of this file, which is tested too.
 
+**To test a line** there are modules beside this one: `otn.lines` has its frames and places by name, `otn.damage`
+damages it by words, `otn.view` and `otn.events` tell what it carries and what happened on it, `otn.test_packets` and
+`otn.count` are packets that know their number and what came of them. docs/TUTORIAL-PYTHON.md shows them in a row.
+
 **The library** is looked for where the environment's OTN_LIBRARY says. Else it is libotn.so beside this file, where
 `library/build python` makes it and where a wheel has it. Else it is the system's libotn.so.1, of the package libotn1. A
 call keeps nothing for the next one, and lets other threads run; so calls of several threads run side by side. Python

@@ -16,7 +16,7 @@
 ['turn 1 letters up cm 0 cnd 0 after 0 turns', 'turn 8 letters down messages damaged', \
 'turn 9 letters up cm 15168 cnd 0 after 1 turns']
 >>> told.tributaries["letters"].times_down, told.line.sm
-(1, 9)
+(1, 3)
 
 docs/VIEW.md says what each line of it means, docs/ALARMS.md which alarm of the standard answers to it. Where the
 program otn_view is older than its events, they are made here, of the view that it tells: `Events.proved` says which.
