@@ -19,9 +19,10 @@ Heard(port=1, slots=(3,), state='up', cm=15168, cnd=0, bytes=15168)
 'up'
 
 The numbers are those of the program otn_view, which are proved (docs/VIEW.md). It runs as a process of its own, and the
-line goes to it through a file of a temporary folder. That this file hands the line over and reads the text aright is
-tested, and not proved. OTN_VIEW says which program it is, else it is the one that was built in crates/otn_view, or
-stands on the path.
+line goes to it through a file of a temporary folder. The library has no such words: the program is proved up to what it
+writes, and what is left to trust is that it was handed this line, and that its text is read aright. That is tested, and
+not proved. OTN_VIEW says which program it is, else it is the one that was built in crates/otn_view, or stands on the
+path.
 """
 from __future__ import annotations
 
