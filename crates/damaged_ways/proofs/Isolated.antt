@@ -15,7 +15,7 @@ use Rattle.connection_laws.specs.OneDamaged.{LeavesAlikeInItsTurns}
 use Rattle.connection_laws.specs.TwoWorlds.{AgreeOnEnd}
 use Rattle.connection_laws.specs.UpToTurn.{AgreeInTurn, AgreeUpTo}
 use Rattle.connection_laws.proofs.UpToTurn.{looks_not_ahead, shows_the_same_up_to}
-use Rattle.run_laws.specs.RunsAlike.{World, IsWorld, bytes_out}
+use Rattle.run_laws.specs.RunsAlike.{World, IsWorld, LeftAlike, bytes_out}
 use Rattle.run_laws.specs.RunsThrough.{read_of}
 use Rattle.run_laws.proofs.RunsAlike.{left_as_alike}
 use Rattle.network_laws.specs.Ways.{HaveTurns}
@@ -30,16 +30,16 @@ record Unharmed (here next : World) (y : Connection) (written : OutputBytes) (b 
   enough : HaveTurns (slots_of slots.kind) y.stop (written.line b)
   same : (t : ℕ) → first_turn y ≤ t → t < y.stop → AgreeInTurn (tributary_of slots port) (read_of here written b) (next.inputs.line c) t
 
-same_line : (a b p q : ℕ) (s t : LineSlots) → to_end.Line a p s ≡ to_end.Line b q t → a ≡ b
+pub same_line : (a b p q : ℕ) (s t : LineSlots) → to_end.Line a p s ≡ to_end.Line b q t → a ≡ b
 same_line a b p q s t e = cc
 
-same_port : (a b p q : ℕ) (s t : LineSlots) → to_end.Line a p s ≡ to_end.Line b q t → p ≡ q
+pub same_port : (a b p q : ℕ) (s t : LineSlots) → to_end.Line a p s ≡ to_end.Line b q t → p ≡ q
 same_port a b p q s t e = cc
 
-same_slots : (a b p q : ℕ) (s t : LineSlots) → to_end.Line a p s ≡ to_end.Line b q t → s ≡ t
+pub same_slots : (a b p q : ℕ) (s t : LineSlots) → to_end.Line a p s ≡ to_end.Line b q t → s ≡ t
 same_slots a b p q s t e = cc
 
-same_taken : (a b p q : ℕ) (s t : LineSlots) → from_end.Line a p s ≡ from_end.Line b q t → a ≡ b
+pub same_taken : (a b p q : ℕ) (s t : LineSlots) → from_end.Line a p s ≡ from_end.Line b q t → a ≡ b
 same_taken a b p q s t e = cc
 
 -- the fibre of a way by the same entries is over the same lines
@@ -130,7 +130,7 @@ shown_from here other (next ∷ rest) (after ∷ others) way second same shown =
     l.goes.puts l.goes.takes l.goes.start l.goes.stop mine theirs)
 
 -- the last entries are the same
-last_same : (here other : Passage) (rest others : List Passage) → entries here rest ≡ entries other others
+pub last_same : (here other : Passage) (rest others : List Passage) → entries here rest ≡ entries other others
     → (last_passage here rest).x ≡ (last_passage other others).x
 last_same here other [] [] same = head_is here.x other.x [] [] same
 last_same here other [] (after ∷ others) same = absurd (cc)
@@ -152,9 +152,13 @@ shown_alike x one other agree = record {
   client = λ n e. subst (λ from. AgreeOnEnd from one.inputs other.inputs) e agree;
 }
 
-pub isolated : DamagedWaysAreIsolated
-isolated here other rest others way second same agree =
-    let shown = shown_from here other rest others way second same (shown_alike here.x here.world other.world agree) in
+-- where the first nodes are shown the same, the same leaves at the end
+pub left_alike_from : (here other : Passage) (rest others : List Passage) (way : IsDamagedWay here rest) (second : IsDamagedWay other others)
+    → entries here rest ≡ entries other others → ShownAlike here.world other.world here.x
+    → LeftAlike (last_passage here rest).world (last_passage other others).world (written_by (last_passage here rest) (last_is here rest way))
+    (written_by (last_passage other others) (last_is other others second)) (last_passage here rest).x
+left_alike_from here other rest others way second same shown_first =
+    let shown = shown_from here other rest others way second same shown_first in
     let last = last_passage here rest in
     let far = last_passage other others in
     let is = last_is here rest way in
@@ -163,3 +167,7 @@ isolated here other rest others way second same agree =
     (sym (last_same here other rest others same)) is_too.has in
     left_as_alike last.world far.world last.x is.is is_too.is
     (record { first = is.has; second = has_too; alike = leaves_alike last.world far.world last.x is.is is.has shown; client = shown.client })
+
+pub isolated : DamagedWaysAreIsolated
+isolated here other rest others way second same agree =
+    left_alike_from here other rest others way second same (shown_alike here.x here.world other.world agree)

@@ -1,3 +1,4 @@
+pub mod Puts
 pub mod Unharmed
 pub mod Isolated
 pub mod Delivered

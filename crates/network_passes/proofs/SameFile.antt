@@ -1,5 +1,5 @@
 -- A line's file is fixed by what the connections that go to it get in their turns.
-use Rattle.std.proofs.Common.{◌≡◌, inl, inr, ◌≤◌, ◌+◌, ◌-◌, ◌/◌, ◌%◌, ℕ, zero, suc, List, [], None, length, take, get_or, refl, sym, ap, ◌∙◌, subst, arith}
+use Rattle.std.proofs.Common.{◌≡◌, ◌≤◌, ◌+◌, ◌-◌, ◌/◌, ◌%◌, ℕ, List, [], None, length, take, get_or, sym, ◌∙◌, subst, arith}
 use Rattle.std.specs.List.{Contains}
 use Rattle.std.proofs.lemmas.List.{ext_get_or, take_all}
 use Rattle.otn_base.specs.LineSlots.{LineSlots}
@@ -10,12 +10,13 @@ use Rattle.plan_file.specs.Answer.{fault_in}
 use Rattle.plan_file.specs.declared.connection.Connection.{Connection}
 use Rattle.plan_file.specs.declared.connection.ToEnd.TheVariants as to_end
 use Rattle.plan_file.specs.declared.plan.Plan.{Plan}
-use Rattle.tributary_model.specs.Places.{Tributary, tributary_of, byte_at}
+use Rattle.tributary_model.specs.Places.{tributary_of, byte_at}
 use Rattle.tributary_model.specs.Puts.{IsPut, IsSourcePlace}
 use Rattle.device_model.specs.Entries.{first_turn, form_out, own_turn, IsSentOn}
 use Rattle.device_model.specs.LineFiles.{IsFrameOf, IsLineFile}
 use Rattle.device_model.specs.Through.{Inputs, own_input, got_by}
 use Rattle.connection_laws.proofs.LineBytes.{Alike, same_frames}
+use Rattle.damaged_ways.proofs.Puts.{same_source, unless_differ}
 use Rattle.connection_laws.proofs.WorldInputs.{sound_of}
 use Rattle.device_model.proofs.MadeFrames.{many_frames}
 
@@ -23,20 +24,6 @@ use Rattle.device_model.proofs.MadeFrames.{many_frames}
 abbrev pub SameGotBy : (plan : Plan) (one other : Inputs) (b : ℕ) → Type 0
 SameGotBy plan one other b = (x : Connection) (port : ℕ) (slots : LineSlots) → Contains plan.connections x → x.to ≡ to_end.Line b port slots
     → (n : ℕ) → first_turn x + n ≤ x.stop → got_by x (own_input one x) n ≡ got_by x (own_input other x) n
-
--- numbers that cannot differ are equal
-unless_differ : (a b : ℕ) → ((a ≡ b → ⊥) → ⊥) → a ≡ b
-unless_differ zero zero h = refl
-unless_differ zero (suc b) h = absurd (h (λ e. omega arith))
-unless_differ (suc a) zero h = absurd (h (λ e. omega arith))
-unless_differ (suc a) (suc b) h = ap suc (unless_differ a b (λ k. h (λ e. k (omega arith))))
-
--- what a source puts there
-same_source : (own : Tributary) (turns : List (List ℕ)) (t n row column : ℕ) (one other : List ℕ) → IsPut own turns t n one → IsPut own turns t n other
-    → IsSourcePlace own n row column → byte_at one row column ≡ byte_at other row column
-same_source own turns t n row column one other f g (inl o) = f.payload row column o ∙ sym (g.payload row column o)
-same_source own turns t n row column one other f g (inr (inl o)) = f.message row column o ∙ sym (g.message row column o)
-same_source own turns t n row column one other f g (inr (inr o)) = f.others row column o ∙ sym (g.others row column o)
 
 -- what a connection that is sent in the turn got by it
 got_so_far : (plan : Plan) (one other : Inputs) (b past port : ℕ) (x : Connection) (slots : LineSlots) → fault_in plan ≡ None

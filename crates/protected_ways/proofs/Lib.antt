@@ -1,0 +1,2 @@
+pub mod GivenOn
+pub mod Protected
