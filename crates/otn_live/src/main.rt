@@ -209,8 +209,17 @@ fn number<R: Read>(from: &mut R) -> io::Result<u32> {
 fn receive<R: Read>(from: &mut R, room: &mut Vec<u8>, length: usize) -> io::Result<()>
     ensures { IfOk result (λ _. length ≤ vec_len room.new) }
 {
-    if room.len() < length {
-        room.resize(length, 0)?;
-    }
+    widen(room, length)?;
     from.read_exact(&mut room[..length])
+}
+
+// Sees to it that there is room for so many bytes.
+fn widen(room: &mut Vec<u8>, length: usize) -> io::Result<()>
+    ensures { IfOk result (λ _. length ≤ vec_len room.new) }
+{
+    if length <= room.len() {
+        return Ok(());
+    }
+    room.resize(length, 0)?;
+    Ok(())
 }
