@@ -54,6 +54,22 @@ def kilo(n):
     return f'{n} B' if n < 10000 else f'{n // 1000} kB' if n < 10000000 else f'{n // 1000000} MB'
 
 
+def patterns():
+    """The stripes and dots of the pictures of lines."""
+    out = ['<style>.on{paint-order:stroke;stroke:white;stroke-opacity:.6;stroke-width:3px}</style>', '<defs>']
+
+    def pattern(name, size, turned, *inside):
+        turn = f' patternTransform="rotate({turned})"' if turned else ''
+        out.append(f'<pattern id="{name}" width="{size}" height="{size}" patternUnits="userSpaceOnUse"{turn}>'
+                   + ''.join(inside) + '</pattern>')
+    pattern('down', 7, 45, '<rect width="7" height="7" fill="#fbe3e2"/>', f'<rect width="2" height="7" fill="{BAD}"/>')
+    pattern('messages', 6, 0, '<rect width="6" height="6" fill="#e3e8ee"/>',
+            f'<circle cx="3" cy="3" r="1" fill="{DIM}"/>')
+    for (signal, fill), turned in zip(SIGNAL.items(), (45, 90, 135)):
+        pattern(signal, 8, turned, f'<rect width="3" height="8" fill="{fill}" fill-opacity=".75"/>')
+    return '\n'.join([*out, '</defs>'])
+
+
 class Drawing:
     """A list of SVG elements. Coordinates are whole pixels, y downwards."""
 

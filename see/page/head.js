@@ -27,7 +27,7 @@ function drawHead() {
   if (about.rest) words.push(`${count(about.rest, 'byte')} over`);
   $('form').textContent = words.join(' · ');
   $('counts').replaceChildren(...KINDS_OF_WRONG.filter(kind => kind.told || !state.proved).map(countButton));
-  $('origin').hidden = !(state.proved && !about.told);
+  $('origin').hidden = about.told > 0;
   $('origin').textContent =
     `No number of this page is proved: ${about.complaint}. rt run in crates/otn_view builds it.`;
   $('sources').replaceChildren(...sourceWords().map(text => el('p', {}, text)));

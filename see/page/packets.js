@@ -1,7 +1,8 @@
 // The packets that the page keeps: those about the chosen turn, of all customers or of one, and the chosen one in full.
 
 const SHOWN = 200, BEFORE = 20, REFUSED_CHECK = 0, RIGHT_CHECK = 2;
-const decoded = new Map(), packetView = {
+const decoded = new Map();
+const packetView = {
   customer: -1,
   only: false,
   from: null,
