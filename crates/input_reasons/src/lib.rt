@@ -12,8 +12,6 @@ mod bad_line;
 mod capture;
 mod line;
 mod packets;
-#[cfg(test)]
-mod tests;
 mod text;
 
 pub use bad_line::reason_of_line;

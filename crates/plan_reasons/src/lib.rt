@@ -24,6 +24,3 @@ mod text;
 mod top;
 
 pub use refusal::{Refusal, refusal_of};
-
-#[cfg(test)]
-mod tests;
