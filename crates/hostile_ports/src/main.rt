@@ -20,7 +20,7 @@ use otn_ports::{Chooser, FirstReady, ListedSource, StdoutSink, write_whole};
 use outcome::{states, write_outputs};
 use places::{MOST_TEXT, Places, fill, sink, source};
 use ports::{Got, OutputFile};
-use program_words::{exit_code, given_words};
+use program_words::{exit_code, given_words, take_standard};
 use std::io::ErrorKind;
 use std::process::ExitCode;
 use std::{fs, io};
@@ -30,6 +30,7 @@ use traces::{Traces, no_bytes};
 const NO_TRIAL: u8 = 8;
 
 fn main(rt: HostRuntime) -> ExitCode {
+    let _standard = take_standard(&rt);
     match serve(&rt) {
         Ok(status) => {
             if status != Status::Done {

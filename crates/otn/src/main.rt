@@ -8,16 +8,18 @@ ghost use Rattle.program_words.specs.Files.{IsInput, IsOutput};
 use line_tool::{NumberChooser, Status, order_of, run};
 use otn_base::Memory;
 use otn_ports::{
-    Chooser, FileSink, FileSource, FirstReady, InPlaceOf, OutPlaceOf, Rack, ReadBlock, Sink,
-    Source, StdoutSink,
+    Chooser, FileSink, FileSource, FirstReady, InPlaceOf, ListedSource, OutPlaceOf, Rack,
+    ReadBlock, Sink, Source, StdoutSink,
 };
 use pages::text_of;
 use pcap_packets::{PcapSink, PcapSource};
 use program_words::{
-    InputFile, InputPort, Opened, OutputFile, OutputPort, exit_code, given_words, input_files,
-    opened_input, output_files, page_of, reads_plan, status_of_page,
+    FileNumber, InputFile, InputPort, Opened, OutputFile, OutputPort, exit_code, given_words,
+    input_files, made_output, number_of, opened_input, opens_files, output_files, page_of,
+    plan_source, plan_text, reads_plan, status_of_page, take_standard,
 };
 use std::fs;
+use std::fs::File;
 use std::process::ExitCode;
 
 mod pages;
@@ -25,6 +27,7 @@ mod pages;
 mod tests;
 
 fn main(rt: HostRuntime) -> ExitCode {
+    let _standard = take_standard(&rt);
     let status = serve(&rt).unwrap_or(Status::Memory);
     if status != Status::Done {
         let _ = eprintln!(rt; "otn: {status}");
@@ -35,37 +38,76 @@ fn main(rt: HostRuntime) -> ExitCode {
 // Writes the page that the words ask for, and answers all other words over files.
 fn serve(rt: &HostRuntime) -> Result<Status, Memory> {
     let words = given_words(rt, rt.alloc())?;
-    match page_of(&words) {
-        Some(page) => {
-            let text = text_of(page);
-            Ok(status_of_page(println!(rt; "{text}")))
-        }
-        None => over_files(rt, &words),
+    if let Some(page) = page_of(&words) {
+        let text = text_of(page);
+        return Ok(status_of_page(println!(rt; "{text}")));
     }
+    over_files(rt, &words)
 }
 
 // The places of a device over files.
 type FileBays = Rack<InputPort<FileSource>, OutputPort<FileSink>>;
 
-// Opens the inputs that the words' command reads, makes the outputs that it writes, and answers the words over them.
+// Reads the plan, where the words' command reads it. Where there is none to be carried no other file is opened or made.
+// Else opens the inputs that the command reads, makes the outputs that it writes, and answers the words over them.
 fn over_files(rt: &HostRuntime, words: &[String]) -> Result<Status, Memory> {
     let alloc = rt.alloc();
     let mut bays = Rack::new(alloc)?;
-    open_inputs(rt, &input_files(alloc, words)?, &mut bays)?;
-    make_outputs(rt, &output_files(alloc, words)?, &mut bays)?;
+    let mut read = Vec::new(alloc);
+    let text = given_plan(rt, words, &mut read)?;
+    if opens_files(alloc, words, &text)? {
+        open_inputs(rt, &input_files(alloc, words)?, &mut read, &mut bays)?;
+        make_outputs(rt, &output_files(alloc, words)?, &read, &mut bays)?;
+    }
+    let mut plan = plan_source(alloc, text)?;
     Ok(match order_of(words) {
-        Some(number) => answer(rt, words, &mut bays, &mut NumberChooser::new(number)),
-        None => answer(rt, words, &mut bays, &mut FirstReady::new()),
+        Some(number) => answer(
+            rt,
+            words,
+            &mut plan,
+            &mut bays,
+            &mut NumberChooser::new(number),
+        ),
+        None => answer(rt, words, &mut plan, &mut bays, &mut FirstReady::new()),
     })
 }
 
+// The plan's text, where the words' command reads it: the first file that is opened, and one of those that are read.
+fn given_plan(
+    rt: &HostRuntime,
+    words: &[String],
+    read: &mut Vec<FileNumber>,
+) -> Result<Option<Vec<u8>>, Memory> {
+    if !reads_plan(words) {
+        return Ok(None);
+    }
+    let Ok(file) = fs::open(rt, "plan.toml") else {
+        return Ok(None);
+    };
+    note(read, &file)?;
+    plan_text(rt.alloc(), &mut FileSource::of(Some(file)))
+}
+
+// Adds the file to those that are read.
+fn note(read: &mut Vec<FileNumber>, file: &File) -> Result<(), Memory> {
+    if let Some(number) = number_of(file) {
+        read.push(number)?;
+    }
+    Ok(())
+}
+
 // Opens these files, each at its place.
-fn open_inputs(rt: &HostRuntime, files: &[InputFile], bays: &mut FileBays) -> Result<(), Memory>
+fn open_inputs(
+    rt: &HostRuntime,
+    files: &[InputFile],
+    read: &mut Vec<FileNumber>,
+    bays: &mut FileBays,
+) -> Result<(), Memory>
     requires { All IsInput files.now }
 {
     for &file in files {
         if !is_spare(file, bays) {
-            open_input(rt, file, bays)?;
+            open_input(rt, file, read, bays)?;
         }
     }
     Ok(())
@@ -82,11 +124,16 @@ fn is_spare(file: InputFile, bays: &FileBays) -> bool
 }
 
 // Opens this file at its place, where there is one.
-fn open_input(rt: &HostRuntime, file: InputFile, bays: &mut FileBays) -> Result<(), Memory>
+fn open_input(
+    rt: &HostRuntime,
+    file: InputFile,
+    read: &mut Vec<FileNumber>,
+    bays: &mut FileBays,
+) -> Result<(), Memory>
     requires { IsInput file }
 {
     let alloc = rt.alloc();
-    let Some(mut source) = input_file(rt, &file.name(alloc)?) else {
+    let Some(mut source) = input_file(rt, &file.name(alloc)?, read)? else {
         return Ok(());
     };
     match file {
@@ -108,22 +155,33 @@ fn open_input(rt: &HostRuntime, file: InputFile, bays: &mut FileBays) -> Result<
     Ok(())
 }
 
-// Makes these files, each at its place.
-fn make_outputs(rt: &HostRuntime, files: &[OutputFile], bays: &mut FileBays) -> Result<(), Memory>
+// Makes these files, each at its place. None is made in a file of those that are read.
+fn make_outputs(
+    rt: &HostRuntime,
+    files: &[OutputFile],
+    read: &[FileNumber],
+    bays: &mut FileBays,
+) -> Result<(), Memory>
     requires { All IsOutput files.now }
 {
     for &file in files {
-        make_output(rt, file, bays)?;
+        make_output(rt, file, read, bays)?;
     }
     Ok(())
 }
 
-// Makes this file at its place.
-fn make_output(rt: &HostRuntime, file: OutputFile, bays: &mut FileBays) -> Result<(), Memory>
+// Makes this file at its place. One that cannot be made fails at its first write.
+fn make_output(
+    rt: &HostRuntime,
+    file: OutputFile,
+    read: &[FileNumber],
+    bays: &mut FileBays,
+) -> Result<(), Memory>
     requires { IsOutput file }
 {
     let alloc = rt.alloc();
-    let sink = output_file(rt, &file.name(alloc)?);
+    let name = file.name(alloc)?;
+    let sink = FileSink::of(made_output(rt, name.as_str(), read));
     match file {
         OutputFile::Line(n) => bays.set_line_out(n, OutPlaceOf::Live(OutputPort::Plain(sink), 0)),
         OutputFile::Text(n) => bays.set_client_out(n, OutPlaceOf::Live(OutputPort::Plain(sink), 0)),
@@ -135,33 +193,31 @@ fn make_output(rt: &HostRuntime, file: OutputFile, bays: &mut FileBays) -> Resul
     Ok(())
 }
 
-// Answers the words over these places, the file of the plan where their command reads it, and standard output.
+// Answers the words over this plan, these places and standard output.
 fn answer<I: Source, O: Sink, C: Chooser>(
     rt: &HostRuntime,
     words: &[String],
+    plan: &mut ListedSource,
     bays: &mut Rack<I, O>,
     chooser: &mut C,
 ) -> Status {
-    let plan = if reads_plan(words) {
-        fs::open(rt, "plan.toml").ok()
-    } else {
-        None
-    };
-    let mut plan = FileSource::of(plan);
     let mut report = StdoutSink::of(rt.stdout());
-    run(rt.alloc(), words, &mut plan, bays, chooser, &mut report)
+    run(rt.alloc(), words, plan, bays, chooser, &mut report)
 }
 
-// The file of an input: None where there is none. One that cannot be opened fails at its first read.
-fn input_file(rt: &HostRuntime, path: &String) -> Option<FileSource> {
+// The file of an input, which is then one of those that are read: None where there is none. One that cannot be opened
+// fails at its first read.
+fn input_file(
+    rt: &HostRuntime,
+    path: &String,
+    read: &mut Vec<FileNumber>,
+) -> Result<Option<FileSource>, Memory> {
     match opened_input(fs::open(rt, path.as_str())) {
-        Opened::File(file) => Some(FileSource::of(Some(file))),
-        Opened::Refused => Some(FileSource::of(None)),
-        Opened::Absent => None,
+        Opened::File(file) => {
+            note(read, &file)?;
+            Ok(Some(FileSource::of(Some(file))))
+        }
+        Opened::Refused => Ok(Some(FileSource::of(None))),
+        Opened::Absent => Ok(None),
     }
-}
-
-// The file of an output, made empty. One that cannot be made fails at its first write.
-fn output_file(rt: &HostRuntime, path: &String) -> FileSink {
-    FileSink::of(fs::create(rt, path.as_str()).ok())
 }

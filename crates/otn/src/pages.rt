@@ -26,9 +26,10 @@ usage: otn check            whether plan.toml is a plan, and of how many connect
        otn --version
 
 All files stand in the current folder. A run reads plan.toml, line-0.in to line-3.in, and client-00.in to client-15.in
-(packets, one a line, in hex). It writes the same names with .out, all twenty of which it makes empty first. An input
-file that is not there has no bytes. Reports, and what slot and pull find, go to standard output. A capture is a
-classic pcap file of Ethernet; editcap -F pcap makes one of a pcapng file.
+(packets, one a line, in hex). It writes the same names with .out, all twenty of which it makes empty once the plan is
+accepted; a plan that is not leaves all files as they are. An output that is the file of an input is not made, and
+fails. An input file that is not there has no bytes. Reports, and what slot and pull find, go to standard output. A
+capture is a classic pcap file of Ethernet; editcap -F pcap makes one of a pcapng file.
 
 A plan of one connection:
     turns = 16

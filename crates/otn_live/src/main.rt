@@ -19,6 +19,7 @@ use live_node::{HandedIn, Lack, LiveNode, Turned};
 use otn_base::limits::{CLIENTS, LINES, MOST_SLOTS};
 use otn_base::{Memory, PortName};
 use plan_file::{NoPlan, Plan};
+use program_words::take_standard;
 use std::alloc::Global;
 use std::io;
 use std::io::{BufReader, Read, Write};
@@ -37,6 +38,7 @@ enum Stop {
 }
 
 fn main(rt: HostRuntime) -> io::Result<()> {
+    let _standard = take_standard(&rt);
     let alloc = rt.alloc();
     let mut from = BufReader::with_capacity(alloc, 1 << 20, rt.reader())?;
     let mut to = io::writer(&rt);

@@ -13,7 +13,7 @@ use command_base::Status;
 use opened::{line_of, plan_name};
 use otn_base::Memory;
 use otn_ports::{FileSource, StdoutSink};
-use program_words::{exit_code, given_words, status_of_page};
+use program_words::{exit_code, given_words, status_of_page, take_standard};
 use std::fs;
 use std::fs::File;
 use std::process::ExitCode;
@@ -27,6 +27,7 @@ mod tributary;
 mod words;
 
 fn main(rt: HostRuntime) -> ExitCode {
+    let _standard = take_standard(&rt);
     let status = serve(&rt).unwrap_or(Status::Memory);
     if status != Status::Done {
         let _ = eprintln!(rt; "otn_view: {status}");
