@@ -5,6 +5,7 @@
 ghost use Rattle.std.specs.Prelude.{All};
 ghost use Rattle.program_words.specs.Files.{IsInput, IsOutput};
 
+use explain_command::explanation;
 use line_tool::{NumberChooser, Status, order_of, run};
 use otn_base::Memory;
 use otn_ports::{
@@ -14,9 +15,9 @@ use otn_ports::{
 use pages::text_of;
 use pcap_packets::{PcapSink, PcapSource};
 use program_words::{
-    FileNumber, InputFile, InputPort, Opened, OutputFile, OutputPort, exit_code, given_words,
-    input_files, made_output, number_of, opened_input, opens_files, output_files, page_of,
-    plan_source, plan_text, reads_plan, status_of_page, take_standard,
+    FileNumber, InputFile, InputPort, Opened, OutputFile, OutputPort, Page, exit_code, explained,
+    given_words, input_files, made_output, number_of, opened_input, opens_files, output_files,
+    page_of, plan_source, plan_text, reads_plan, status_of_page, take_standard,
 };
 use std::fs;
 use std::fs::File;
@@ -35,14 +36,20 @@ fn main(rt: HostRuntime) -> ExitCode {
     exit_code(&status)
 }
 
-// Writes the page that the words ask for, and answers all other words over files.
+// Writes the page that the words ask for, or explains words, and answers all others over files.
 fn serve(rt: &HostRuntime) -> Result<Status, Memory> {
     let words = given_words(rt, rt.alloc())?;
     if let Some(page) = page_of(&words) {
         let text = text_of(page);
         return Ok(status_of_page(println!(rt; "{text}")));
     }
-    over_files(rt, &words)
+    match explained(&words) {
+        Some(words) => {
+            let text = explanation(rt, words, text_of(Page::Rules))?;
+            Ok(status_of_page(print!(rt; "{text}")))
+        }
+        None => over_files(rt, &words),
+    }
 }
 
 // The places of a device over files.

@@ -21,6 +21,8 @@ usage: otn check            whether plan.toml is a plan, and of how many connect
        otn unbundle T       writes the packets of channels 0 to 15, which slot 1 of line-0.in has in T turns, to
                             client-00.out to client-15.out, and how many came on each
        otn trial N          carries packets drawn from the number N through four nodes in a row, in memory
+       otn --explain WORDS  what these words would do in this folder, and what is wrong with its files; it changes
+                            nothing, and with no word behind it is about run
        otn --rules          the fifteen rules of a plan, and what to do where one is broken
        otn --help           this page, also by -h and help
        otn --version
@@ -44,13 +46,16 @@ An ODUflex has kind = \"flex\" and one slot or more. The way out: from = { line 
 It ends with 0 done  1 unfinished  2 words  3 plan CODE at PLACE  4 plan fault  5 report fault  6 cut  7 memory.
 1: too few turns, or the report says bad L: line L of a client is no packet. 2: otn --help. 3: otn --rules.
 4: no plan.toml can be read here. 5: standard output failed. 6: a file failed, and the report says which is dead.
+Of 1, 2, 3, 4 and 6 otn --explain with the same words says more.
 ";
 
 const RULES: &str = "\
 otn: plan CODE at PLACE. PLACE 0 is the top of plan.toml, 1 its first connection, 2 the second, and so on.
 The rules are tried by their numbers, and the first that is broken is told: check again after each mend.
+otn --explain says which value breaks it, and what would do.
 
- 1 NotToml      the text is no TOML, no UTF-8, or longer than 1,048,576 bytes: another reader of TOML says the line
+ 1 NotToml      the text is no TOML, no UTF-8, or longer than 1,048,576 bytes: otn --explain says the line. Lists and
+                tables more than 80 deep, and numbers that are too large for their type, are refused too
  2 UnknownKey   take out the key that can't stand there: one that is misspelt; pace where from is no client or
                 signal; fcs or trace where from is no client; a list of lines without version = 2
  3 MissingKey   write the key that is missing: turns at the top; name, kind, from or to of a connection; line, port
