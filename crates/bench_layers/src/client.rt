@@ -5,8 +5,8 @@ use crate::gfp::mixed;
 use odu_client::{Aligned, ClientAligner, ClientFramer};
 use otn_base::limits::{CLIENT_FRAME_BYTES, CLIENT_PAYLOAD_BYTES, MOST_PACKET};
 use otn_base::{Memory, Trace};
-use otn_ports::{InPlaceOf, MemSource};
 use packet_text::PacketLines;
+use port_base::{InPlaceOf, MemSource};
 use std::alloc::Global;
 
 // Packets of a text, and frames of a stream in which no packet stands.

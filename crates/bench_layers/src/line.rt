@@ -2,7 +2,7 @@
 use line_side::LineOut;
 use msi_table::SlotMap;
 use otn_base::{LineKind, Memory};
-use otn_ports::{MemSink, OutPlaceOf};
+use port_base::{MemSink, OutPlaceOf};
 use std::alloc::Global;
 
 /// Finishes so many frames of a line, with a payload byte that changes, and counts them.

@@ -1,9 +1,9 @@
 -- Places with bounded sinks that have failed.
 use Rattle.std.proofs.Common.{◌≡◌, ◌<◌, ◌+◌, ℕ, zero, suc, List, [], ◌∷◌, length, map, get_or, Some, arith}
-use Rattle.otn_ports.specs.OutPlace.{out_view}
-use Rattle.otn_ports.specs.Views.{no_output}
-use Rattle.otn_ports.specs.declared.out_place.OutPlaceOf.{OutPlaceOf}
-use Rattle.otn_ports.specs.declared.out_place.OutPlaceOf.TheVariants as output
+use Rattle.port_base.specs.OutPlace.{out_view}
+use Rattle.port_base.specs.Views.{no_output}
+use Rattle.port_base.specs.declared.out_place.OutPlaceOf.{OutPlaceOf}
+use Rattle.port_base.specs.declared.out_place.OutPlaceOf.TheVariants as output
 use Rattle.bounded_ports.specs.Bounded.{bounded_got, bounded_faults}
 use Rattle.bounded_ports.specs.contracts.bounded_sink.BoundedSinkSink.TheImpl as sink
 use Rattle.bounded_ports.specs.declared.bounded_sink.BoundedSink.{BoundedSink}

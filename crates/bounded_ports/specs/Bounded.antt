@@ -1,6 +1,6 @@
 -- API: what is seen of a bounded sink.
 use Rattle.std.specs.Prelude.{ℕ, List}
-use Rattle.otn_ports.specs.Memory.{memory_got, memory_faults}
+use Rattle.port_base.specs.Memory.{memory_got, memory_faults}
 use Rattle.bounded_ports.specs.declared.bounded_sink.BoundedSink.{BoundedSink}
 
 -- the bytes that it got

@@ -1,6 +1,6 @@
 -- API: places with bounded sinks that have failed.
 use Rattle.std.specs.Prelude.{◌≡◌, ◌<◌, ℕ, List, length, Some}
-use Rattle.otn_ports.specs.Views.{BaysView, line_out_at, client_out_at}
+use Rattle.port_base.specs.Views.{BaysView, line_out_at, client_out_at}
 
 -- Each output place of a device whose port has failed is full: it has got as many bytes as there is room for.
 pub record FailsFull (room : ℕ) (bays : BaysView) : Type 0 where

@@ -1,10 +1,10 @@
 // A sink in memory that fails only where it is full.
 ghost use Rattle.std.specs.Prelude.{◌≡◌, ◌≤◌, ◌<◌, ◌+◌, ◌++◌, [], true, Some, IfOk, OnOk, OnErr, length};
-ghost use Rattle.otn_ports.specs.Bytes.{sent, faults_after, HasFailed};
-ghost use Rattle.otn_ports.specs.Memory.{memory_faults, memory_got, memory_room};
+ghost use Rattle.port_base.specs.Bytes.{sent, faults_after, HasFailed};
+ghost use Rattle.port_base.specs.Memory.{memory_faults, memory_got, memory_room};
 
 use otn_base::Memory;
-use otn_ports::{Failed, MemSink, Sink};
+use port_base::{Failed, MemSink, Sink};
 use std::alloc::Global;
 
 /// Keeps the bytes that it gets, `ROOM` at most, and tells them. It fails exactly at a write of a byte or more that

@@ -1,9 +1,9 @@
 // What is known of places whose sinks have failed.
-ghost use Rattle.otn_ports.specs.Racks.{bays_view};
+ghost use Rattle.port_base.specs.Racks.{bays_view};
 ghost use Rattle.bounded_ports.specs.Full.{FailsFull};
 
 use crate::BoundedSink;
-use otn_ports::{Rack, Sink, Source};
+use port_base::{Rack, Sink, Source};
 
 /// An output place with a bounded sink that has failed is full: its sink has got as many bytes as it has room for. So
 /// one to which fewer went has not failed.

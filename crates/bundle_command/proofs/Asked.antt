@@ -9,8 +9,8 @@ use Rattle.std.proofs.lemmas.List.FromFn.{get_or-map-range_with_len, length-map-
 use Rattle.std.proofs.lemmas.List.Elements.{Contains-get_or}
 use Rattle.std.proofs.lemmas.Option.{same_Some, slice_get_within}
 use Rattle.otn_base.specs.Counts.{saturated}
-use Rattle.otn_ports.specs.Steps.OnePlace.{OnlyClientIn}
-use Rattle.otn_ports.specs.Views.{InView, BaysView, client_in_at}
+use Rattle.port_base.specs.Steps.OnePlace.{OnlyClientIn}
+use Rattle.port_base.specs.Views.{InView, BaysView, client_in_at}
 use Rattle.packet_text.specs.LinesStand.{lines_view}
 use Rattle.gfp_linear.specs.ChannelFrames.{IsCidList}
 use Rattle.gfp_linear.specs.Laws.{WeaveGoesOn}

@@ -1,6 +1,6 @@
 -- What is known of a client behind the packets that are begun.
 use Rattle.std.proofs.Common.{◌≡◌, ◌≢◌, ◌⊎◌, inl, inr, ◌<◌, ◌+◌, ℕ, Bool, true, false, List, [], ◌∷◌, ◌++◌, length, refl, sym, ap, subst, ◌∙◌, append-nil, length-append, arith}
-use Rattle.otn_ports.specs.Views.{State, Live, Dead, Empty, InView}
+use Rattle.port_base.specs.Views.{State, Live, Dead, Empty, InView}
 use Rattle.packet_text.specs.LinesStand.{LinesView, LinesStand, Told, may_be, asked_for}
 use Rattle.packet_text.specs.PacketText.{Packets, packets_of}
 use Rattle.packet_text.specs.TextLines.{full_lines}

@@ -2,7 +2,7 @@
 use Rattle.std.proofs.Common.{◌≡◌, ◌≢◌, ◌⊎◌, inl, inr, ◌<◌, ◌≤◌, ◌+◌, ◌-◌, ℕ, suc, List, [], ◌∷◌, ◌++◌, Some, length, set, get_or, refl, sym, ap, subst, ◌∙◌, append-nil, arith}
 use Rattle.std.specs.Prelude.{slice_get}
 use Rattle.std.proofs.lemmas.Option.{same_Some, slice_get_within}
-use Rattle.otn_ports.specs.Views.{InView, BaysView, client_in_at}
+use Rattle.port_base.specs.Views.{InView, BaysView, client_in_at}
 use Rattle.packet_text.specs.LinesStand.{lines_view}
 use Rattle.gfp_linear.specs.Weave.{packets_given}
 use Rattle.gfp_linear.specs.Weaver.{IsWeave}

@@ -6,11 +6,11 @@ use Rattle.std.proofs.Math.Seq.{take-length}
 use Rattle.std.proofs.lemmas.Bool.Decides.{nat_tests}
 use Rattle.std.proofs.lemmas.Option.{slice_get-get_or, slice_get_within}
 use Rattle.otn_base.specs.Counts.{saturated}
-use Rattle.otn_ports.specs.PortViews.{SinkView, SinkGot, SinkWrites}
-use Rattle.otn_ports.specs.Views.{State, Empty, Live, Dead, is_dead, InView, BaysView, client_in_at, line_out_at}
-use Rattle.otn_ports.proofs.GivenLaws.{dead_of}
-use Rattle.otn_ports.specs.declared.drain.Written.{Written}
-use Rattle.otn_ports.specs.declared.drain.Written.TheVariants as written
+use Rattle.port_base.specs.PortViews.{SinkView, SinkGot, SinkWrites}
+use Rattle.port_base.specs.Views.{State, Empty, Live, Dead, is_dead, InView, BaysView, client_in_at, line_out_at}
+use Rattle.port_base.proofs.GivenLaws.{dead_of}
+use Rattle.port_base.specs.declared.drain.Written.{Written}
+use Rattle.port_base.specs.declared.drain.Written.TheVariants as written
 use Rattle.packet_text.specs.LinesStand.{LinesStand, ReadAsNeeded, lines_view, read_short, asked_for}
 use Rattle.packet_text.specs.declared.line.Line.{Line}
 use Rattle.packet_text.specs.declared.line.Line.TheVariants as line
@@ -29,8 +29,8 @@ use Rattle.bundle_command.specs.Steps.Settled.{AllEnded, DeadClients, IsEnded, I
 use Rattle.bundle_command.specs.declared.channel.Channel.{Channel}
 use Rattle.bundle_command.specs.declared.channel.Standing.{Standing}
 use Rattle.bundle_command.specs.declared.channel.Standing.TheVariants as standing
-use Rattle.otn_ports.specs.declared.ended.Ended.{Ended}
-use Rattle.otn_ports.specs.declared.ended.Ended.TheVariants.{Done, Unfinished, Cut, ReportFault, Memory}
+use Rattle.port_base.specs.declared.ended.Ended.{Ended}
+use Rattle.port_base.specs.declared.ended.Ended.TheVariants.{Done, Unfinished, Cut, ReportFault, Memory}
 use Rattle.bundle_command.specs.declared.weaving.Weaving.{Weaving}
 use Rattle.bundle_command.proofs.Asked.{text_at, texts_many}
 use Rattle.bundle_command.proofs.Ends.{input_left, may_show, more_by}

@@ -8,8 +8,8 @@ use Rattle.std.proofs.lemmas.Bool.Decides.{nat_tests}
 use Rattle.std.proofs.lemmas.List.{length-take-le, take-append-drop}
 use Rattle.std.proofs.lemmas.Option.{slice_get-get_or, slice_get_within}
 use Rattle.otn_base.specs.Counts.{saturated}
-use Rattle.otn_ports.specs.Reads.{HasEnded}
-use Rattle.otn_ports.specs.Views.{State, Empty, Live, Dead, InView, BaysView, client_in_at, line_out_at}
+use Rattle.port_base.specs.Reads.{HasEnded}
+use Rattle.port_base.specs.Views.{State, Empty, Live, Dead, InView, BaysView, client_in_at, line_out_at}
 use Rattle.packet_text.specs.LinesStand.{LinesView, LinesStand, may_be, lines_view}
 use Rattle.packet_text.proofs.StandingLines.{died_unended}
 use Rattle.packet_text.specs.TextLines.{full_lines, text_of_dead}

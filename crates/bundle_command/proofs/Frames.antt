@@ -4,7 +4,7 @@ use Rattle.std.specs.List.{concat}
 use Rattle.std.proofs.Math.Seq.{take-append_seam, take-length, drop-append_seam, drop-length}
 use Rattle.std.proofs.lemmas.List.{take-append-le, drop-append-le}
 use Rattle.std.proofs.lemmas.Nat.{div-mul-add}
-use Rattle.otn_ports.specs.Views.{BaysView}
+use Rattle.port_base.specs.Views.{BaysView}
 use Rattle.gfp_linear.specs.Weave.{ChannelText, weave_text}
 use Rattle.odu_client.specs.ClientFrames.{client_frames, frames_begun, payload_begun}
 use Rattle.odu_client.specs.ClientOverhead.{HasMadeFrames, MakesFrame, OverheadState}

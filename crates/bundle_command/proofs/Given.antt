@@ -5,7 +5,7 @@ use Rattle.std.specs.List.{Contains}
 use Rattle.std.proofs.lemmas.List.{length-take-le}
 use Rattle.std.proofs.lemmas.Option.{slice_get_within}
 use Rattle.otn_base.specs.Counts.{saturated}
-use Rattle.otn_ports.specs.Views.{BaysView}
+use Rattle.port_base.specs.Views.{BaysView}
 use Rattle.gfp_frames.proofs.Lists.{some_length}
 use Rattle.gfp_linear.specs.Weave.{IdleFrame}
 use Rattle.gfp_linear.specs.Weaver.{WeaverState, HasWoven, IsWeave, woven_first}

@@ -5,7 +5,7 @@ use Rattle.std.proofs.Math.Nat.{mod-lt}
 use Rattle.std.proofs.Math.Seq.{take-append_seam}
 use Rattle.std.proofs.lemmas.Option.{slice_get-get_or, slice_get_within}
 use Rattle.otn_base.specs.Counts.{saturated}
-use Rattle.otn_ports.specs.Views.{BaysView}
+use Rattle.port_base.specs.Views.{BaysView}
 use Rattle.packet_text.specs.LinesStand.{lines_view}
 use Rattle.gfp_linear.specs.Weave.{ChannelText, WovenFrame, IdleFrame, asked_after, asked_first, frame_or, given_of, last_giver, next_frame, next_of, no_text, offer, packets_given, weave}
 use Rattle.gfp_linear.specs.Weaver.{Woven, HasWoven, IsWeave, idles_on}

@@ -4,11 +4,11 @@ use Rattle.std.proofs.Math.Seq.{take-append-add, take-append_seam, take-length}
 use Rattle.std.proofs.lemmas.List.{drop-drop, length-take-le, take-append-drop, take-append-le}
 use Rattle.std.proofs.lemmas.Bool.Decides.{eqb_tells}
 use Rattle.std.proofs.lemmas.Option.{same_Some, slice_get_read, slice_get_within}
-use Rattle.otn_ports.proofs.PortLaws.{sink_got_none, sink_got_twice}
-use Rattle.otn_ports.specs.Bytes.{HasFailed}
-use Rattle.otn_ports.specs.PortViews.{SinkGot, SinkView, SinkWrites}
-use Rattle.otn_ports.specs.Views.{is_dead, InView, BaysView, client_in_at}
-use Rattle.otn_ports.specs.declared.drain.Written.TheVariants as written
+use Rattle.port_base.proofs.PortLaws.{sink_got_none, sink_got_twice}
+use Rattle.port_base.specs.Bytes.{HasFailed}
+use Rattle.port_base.specs.PortViews.{SinkGot, SinkView, SinkWrites}
+use Rattle.port_base.specs.Views.{is_dead, InView, BaysView, client_in_at}
+use Rattle.port_base.specs.declared.drain.Written.TheVariants as written
 use Rattle.bundle_command.specs.Steps.Channels.{AreFresh, ChannelStands, HasChannel}
 use Rattle.bundle_command.specs.Steps.Settled.{AllEnded, DeadClients, line_of, lines_of}
 use Rattle.bundle_command.specs.declared.channel.Channel.{Channel}

@@ -1,13 +1,13 @@
 -- Channels that are asked at their places.
 use Rattle.std.proofs.Common.{◌≡◌, ◌≢◌, ◌<◌, ◌≤◌, ℕ, List, [], ◌∷◌, ◌++◌, Some, length, set, refl, sym, ap, subst, ◌∙◌, slice_get}
-use Rattle.otn_ports.proofs.BaysLaws.{client_in_seen, client_in_set, only_client_in}
-use Rattle.otn_ports.specs.InPlace.{in_view}
-use Rattle.otn_ports.specs.Racks.{bays_view, client_ins, with_client_in}
-use Rattle.otn_ports.specs.Views.{InView}
-use Rattle.otn_ports.specs.declared.bays.Rack.{Rack}
-use Rattle.otn_ports.specs.declared.in_place.InPlaceOf.{InPlaceOf}
-use Rattle.otn_ports.specs.declared.sink.Sink as sink
-use Rattle.otn_ports.specs.declared.source.Source as source
+use Rattle.port_base.proofs.BaysLaws.{client_in_seen, client_in_set, only_client_in}
+use Rattle.port_base.specs.InPlace.{in_view}
+use Rattle.port_base.specs.Racks.{bays_view, client_ins, with_client_in}
+use Rattle.port_base.specs.Views.{InView}
+use Rattle.port_base.specs.declared.bays.Rack.{Rack}
+use Rattle.port_base.specs.declared.in_place.InPlaceOf.{InPlaceOf}
+use Rattle.port_base.specs.declared.sink.Sink as sink
+use Rattle.port_base.specs.declared.source.Source as source
 use Rattle.packet_text.specs.LinesStand.{lines_view}
 use Rattle.bundle_command.specs.Steps.Channels.{Answered, ChannelAsked, ChannelStands, HasChannel, news}
 use Rattle.bundle_command.specs.Steps.Settled.{ChannelSettled}

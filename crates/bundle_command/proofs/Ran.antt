@@ -5,9 +5,9 @@ use Rattle.std.specs.List.{concat}
 use Rattle.std.proofs.Math.Seq.{take-length}
 use Rattle.std.proofs.lemmas.Bool.{not-true, not_from_false}
 use Rattle.std.proofs.lemmas.Option.{slice_get_within}
-use Rattle.otn_ports.specs.PortViews.{SinkView, SinkGot, SinkWrites}
-use Rattle.otn_ports.specs.Views.{State, is_dead, InView, BaysView, line_out_at}
-use Rattle.otn_ports.specs.declared.drain.Written.TheVariants as written
+use Rattle.port_base.specs.PortViews.{SinkView, SinkGot, SinkWrites}
+use Rattle.port_base.specs.Views.{State, is_dead, InView, BaysView, line_out_at}
+use Rattle.port_base.specs.declared.drain.Written.TheVariants as written
 use Rattle.packet_text.specs.LinesStand.{ReadAsNeeded, lines_view, read_short, asked_for}
 use Rattle.packet_text.specs.declared.line.Line.{Line}
 use Rattle.packet_text.specs.declared.line.Line.TheVariants as line
@@ -30,8 +30,8 @@ use Rattle.bundle_command.specs.Steps.Settled.{IsEnded, IsSettled, lines_of}
 use Rattle.bundle_command.specs.declared.channel.Channel.{Channel}
 use Rattle.bundle_command.specs.declared.channel.Standing.{Standing}
 use Rattle.bundle_command.specs.declared.channel.Standing.TheVariants as standing
-use Rattle.otn_ports.specs.declared.ended.Ended.{Ended}
-use Rattle.otn_ports.specs.declared.ended.Ended.TheVariants.{ReportFault, Memory}
+use Rattle.port_base.specs.declared.ended.Ended.{Ended}
+use Rattle.port_base.specs.declared.ended.Ended.TheVariants.{ReportFault, Memory}
 use Rattle.bundle_command.specs.declared.weaving.Weaving.{Weaving}
 use Rattle.bundle_command.proofs.AskedAtEnd.{was_asked}
 use Rattle.bundle_command.proofs.AskedTurns.{asked_in}

@@ -5,7 +5,7 @@ use Rattle.std.specs.List.{list_all, take_while}
 use Rattle.std.proofs.lemmas.List.Folds.{list_all-append}
 use Rattle.std.proofs.lemmas.List.Sums.{take_while-cons}
 use Rattle.std.proofs.lemmas.Option.{slice_get_past}
-use Rattle.otn_ports.specs.Views.{InView}
+use Rattle.port_base.specs.Views.{InView}
 use Rattle.packet_text.specs.LinesStand.{LinesView, LinesStand, Told, lines_view}
 use Rattle.packet_text.specs.PacketText.{Packets, TextEnding, Ended as TextEnds, BadAt, behind, packets_of}
 use Rattle.packet_text.specs.declared.line.Line.{Line}

@@ -3,13 +3,13 @@ use Rattle.std.proofs.Common.{◌≡◌, ◌≢◌, ◌<◌, ◌≤◌, ◌+◌,
 use Rattle.std.specs.Prelude.{slice_index, slice_range}
 use Rattle.std.specs.List.{Contains}
 use Rattle.otn_base.specs.declared.line_kind.LineKind.TheVariants.{Otu2}
-use Rattle.otn_ports.proofs.OneOutPlace.{OnlyLineOut}
-use Rattle.otn_ports.specs.Views.{InView, OutView, BaysView, client_in_at, line_out_at, no_input}
+use Rattle.port_base.proofs.OneOutPlace.{OnlyLineOut}
+use Rattle.port_base.specs.Views.{InView, OutView, BaysView, client_in_at, line_out_at, no_input}
 use Rattle.tributary_line.specs.FeedTurn.{Completes, FeedStands, FeedView}
 use Rattle.gfp_linear.specs.Weave.{packets_given}
 use Rattle.tributary_model.specs.Carries.{sent}
 use Rattle.tributary_model.specs.Puts.{lengths_of}
-use Rattle.otn_ports.specs.PortViews.{SinkView}
+use Rattle.port_base.specs.PortViews.{SinkView}
 use Rattle.bundle_command.specs.BundleLeft.{BundleRan, OnlyBundled, place_of}
 use Rattle.bundle_command.specs.BundleStream.{first_slot, parts_of}
 use Rattle.bundle_command.specs.Steps.Bundled.{CanTurn, TurnsGone}
@@ -18,7 +18,7 @@ use Rattle.bundle_command.specs.Steps.Framed.{AreReady, FramesHave, FramesStand,
 use Rattle.bundle_command.specs.Steps.Settled.{IsSettled}
 use Rattle.bundle_command.specs.declared.bundling.Bundling.{Bundling}
 use Rattle.bundle_command.specs.declared.channel.Channel.{Channel}
-use Rattle.otn_ports.specs.declared.ended.Ended.{Ended}
+use Rattle.port_base.specs.declared.ended.Ended.{Ended}
 use Rattle.bundle_command.specs.declared.framing.Framing.{Framing}
 use Rattle.bundle_command.specs.declared.weaving.Weaving.{Weaving}
 use Rattle.bundle_command.proofs.AtEnd.{place_low}

@@ -2,9 +2,9 @@
 use Rattle.std.specs.Prelude.{◌≡◌, ◌≢◌, ◌⊎◌, ◌↔◌, ◌<◌, ◌≤◌, ◌*◌, ◌+◌, ℕ, Bool, true, false, List, [], ◌++◌, All, length, take, slice_index}
 use Rattle.std.specs.List.{Contains, concat}
 use Rattle.otn_base.specs.declared.limits.TheConstants.{OTU2_SLOTS}
-use Rattle.otn_ports.specs.PortViews.{SinkView, SinkGot}
-use Rattle.otn_ports.specs.Sent.{IsSent}
-use Rattle.otn_ports.specs.Views.{Dead, InView, OutView, BaysView, line_in_at, line_out_at, client_in_at}
+use Rattle.port_base.specs.PortViews.{SinkView, SinkGot}
+use Rattle.port_base.specs.Sent.{IsSent}
+use Rattle.port_base.specs.Views.{Dead, InView, OutView, BaysView, line_in_at, line_out_at, client_in_at}
 use Rattle.packet_text.specs.LinesStand.{ReadAsNeeded}
 use Rattle.packet_text.specs.PacketText.{packets_of, shows_bad}
 use Rattle.packet_text.specs.TextLines.{full_lines}
@@ -14,8 +14,8 @@ use Rattle.device_model.specs.LineAsked.{MayHave, InputLeft}
 use Rattle.tributary_line.specs.TributaryFile.{IsTributaryFile}
 use Rattle.bundle_command.specs.ChannelInput.{texts_of}
 use Rattle.bundle_command.specs.BundleStream.{IsAskedWithin, IsFinished, begun_of, channel_turns, first_slot, lines_told}
-use Rattle.otn_ports.specs.declared.ended.Ended.{Ended}
-use Rattle.otn_ports.specs.declared.ended.Ended.TheVariants.{Unfinished, Cut, ReportFault, Memory}
+use Rattle.port_base.specs.declared.ended.Ended.{Ended}
+use Rattle.port_base.specs.declared.ended.Ended.TheVariants.{Unfinished, Cut, ReportFault, Memory}
 
 -- the place of a channel's client
 abbrev pub place_of : (clients : List ℕ) → BaysView → (c : ℕ) → InView

@@ -6,7 +6,7 @@ use Rattle.std.specs.List.{concat}
 use Rattle.otn_base.specs.Counts.{saturated}
 use Rattle.otn_base.specs.declared.limits.TheConstants.{CLIENT_FRAME_BYTES, CLIENT_PAYLOAD_BYTES, NOMINAL}
 use Rattle.otn_base.specs.declared.line_kind.LineKind.TheVariants.{Otu2}
-use Rattle.otn_ports.specs.Views.{State}
+use Rattle.port_base.specs.Views.{State}
 use Rattle.tributary_model.specs.Places.{Tributary, tributary_of}
 use Rattle.gfp_linear.specs.Weave.{ChannelText, WovenFrame, IdleFrame, asked_after, giver_or, last_giver, weave, weave_text, woven_size, woven_within, packets_given}
 use Rattle.odu_client.specs.ClientFrames.{client_frames, frames_begun, payload_begun}

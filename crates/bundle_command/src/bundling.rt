@@ -1,8 +1,8 @@
 // The turns of the command.
 ghost use Rattle.std.specs.Prelude.{◌≡◌, ◌+◌, ◌≤◌, ℕ, List, [], ◌∷◌, ◌++◌, IfOk, length, take, vec_len};
 ghost use Rattle.otn_base.specs.declared.limits.TheConstants.{GROUPS, NOMINAL};
-ghost use Rattle.otn_ports.specs.Racks.{bays_view};
-ghost use Rattle.otn_ports.specs.Views.{BaysView};
+ghost use Rattle.port_base.specs.Racks.{bays_view};
+ghost use Rattle.port_base.specs.Views.{BaysView};
 ghost use Rattle.client_list.specs.ClientLists.{IsClientList};
 ghost use Rattle.bundle_command.specs.BundleStream.{first_slot};
 ghost use Rattle.bundle_command.specs.Steps.Bundled.{CanTurn, TurnsGone};
@@ -11,7 +11,7 @@ ghost use Rattle.bundle_command.specs.Steps.Framed.{AreReady, FramesStand, OnlyI
 use crate::framing::Framing;
 use otn_base::limits::{GROUPS, NOMINAL};
 use otn_base::{LineKind, Memory, Slots};
-use otn_ports::{Rack, Sink, Source};
+use port_base::{Rack, Sink, Source};
 use std::alloc::{AllocError, Global};
 use tributary_line::Feed;
 

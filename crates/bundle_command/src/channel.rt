@@ -1,13 +1,13 @@
 // A channel: its client's text, packet by packet.
 ghost use Rattle.std.specs.Prelude.{◌≡◌, ◌≢◌, ◌⊎◌, ◌<◌, ◌≤◌, ◌++◌, ℕ, List, [], IfOk, length};
-ghost use Rattle.otn_ports.specs.InPlace.{in_view};
-ghost use Rattle.otn_ports.specs.Views.{InView};
+ghost use Rattle.port_base.specs.InPlace.{in_view};
+ghost use Rattle.port_base.specs.Views.{InView};
 ghost use Rattle.packet_text.specs.LinesStand.{lines_view};
 ghost use Rattle.bundle_command.specs.Steps.Channels.{ChannelStands, Answered, count_of, news, standing_of, standing_at_end};
 
 use otn_base::Memory;
-use otn_ports::{InPlaceOf, Source};
 use packet_text::{Line, PacketLines};
+use port_base::{InPlaceOf, Source};
 use std::alloc::Global;
 
 /// Bytes of a packet that a channel carries at most: the area of its frame has 65,535 bytes, 12 of which are headers

@@ -1,10 +1,10 @@
 // The command: packets of several clients go as the channels of one ODU0.
 ghost use Rattle.std.specs.Prelude.{◌≡◌, ◌≢◌, ◌+◌, ◌<◌, ◌≤◌, ℕ, List, [], ◌∷◌, length, vec_len};
 ghost use Rattle.otn_base.specs.declared.limits.TheConstants.{GROUPS, MOST_TURNS};
-ghost use Rattle.otn_ports.specs.Bytes.{HasFailed};
-ghost use Rattle.otn_ports.specs.PortViews.{sink_view};
-ghost use Rattle.otn_ports.specs.Racks.{bays_view};
-ghost use Rattle.otn_ports.specs.Views.{BaysView};
+ghost use Rattle.port_base.specs.Bytes.{HasFailed};
+ghost use Rattle.port_base.specs.PortViews.{sink_view};
+ghost use Rattle.port_base.specs.Racks.{bays_view};
+ghost use Rattle.port_base.specs.Views.{BaysView};
 ghost use Rattle.client_list.specs.ClientLists.{IsClientList};
 ghost use Rattle.bundle_command.specs.BundleLeft.{BundleRan, OnlyBundled};
 ghost use Rattle.bundle_command.specs.Steps.Bundled.{CanTurn, TurnsGone};
@@ -13,7 +13,7 @@ use crate::bundling::{Bundling, turn_room};
 use crate::report_line::write_channels;
 use crate::settling::{ended, settle};
 use otn_base::LineKind;
-use otn_ports::{Ended, Rack, Sink, Source, Written};
+use port_base::{Ended, Rack, Sink, Source, Written};
 use std::alloc::Global;
 
 /// Puts the packets of these clients, of which there is one at least and whose numbers rise, 0 to 15, on line output 0

@@ -1,8 +1,8 @@
 // The client frames that carry the channels, one after another.
 ghost use Rattle.std.specs.Prelude.{◌≡◌, ◌≢◌, ◌<◌, ◌≤◌, ◌+◌, ◌++◌, ℕ, List, [], IfOk, length, take, drop};
 ghost use Rattle.otn_base.specs.declared.limits.TheConstants.{CLIENT_FRAME_BYTES};
-ghost use Rattle.otn_ports.specs.Racks.{bays_view};
-ghost use Rattle.otn_ports.specs.Views.{BaysView};
+ghost use Rattle.port_base.specs.Racks.{bays_view};
+ghost use Rattle.port_base.specs.Views.{BaysView};
 ghost use Rattle.client_list.specs.ClientLists.{IsClientList};
 ghost use Rattle.bundle_command.specs.Steps.Framed.{AreReady, FramesHave, FramesStand, OnlyInputs};
 
@@ -12,7 +12,7 @@ use frame_geometry::Frame;
 use odu_client::ClientOverhead;
 use otn_base::limits::CLIENT_FRAME_BYTES;
 use otn_base::{Memory, Trace, copy_front};
-use otn_ports::{Rack, Sink, Source};
+use port_base::{Rack, Sink, Source};
 use std::alloc::Global;
 
 impl Framing {

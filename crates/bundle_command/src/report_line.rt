@@ -1,9 +1,9 @@
 // The line of the report that tells of a channel.
 ghost use Rattle.std.specs.Prelude.{◌≡◌, ◌<◌, ◌≤◌, ◌++◌, ◌∷◌, ℕ, length, codes};
 ghost use Rattle.std.specs.Fmt.{decimal};
-ghost use Rattle.otn_ports.specs.InPlace.{in_view};
-ghost use Rattle.otn_ports.specs.PortViews.{SinkWrites, sink_view};
-ghost use Rattle.otn_ports.specs.Racks.{bays_view};
+ghost use Rattle.port_base.specs.InPlace.{in_view};
+ghost use Rattle.port_base.specs.PortViews.{SinkWrites, sink_view};
+ghost use Rattle.port_base.specs.Racks.{bays_view};
 ghost use Rattle.device_model.specs.Report.{state_word};
 ghost use Rattle.bundle_command.specs.BundleStream.{channel_line};
 ghost use Rattle.bundle_command.specs.Steps.Channels.{HasChannel};
@@ -12,7 +12,7 @@ ghost use Rattle.bundle_command.specs.Steps.Settled.{line_of, lines_of};
 use crate::channel::Channel;
 use arrayvec::ArrayString;
 use itoa::Buffer;
-use otn_ports::{InPlaceOf, Rack, Sink, Source, Written, write_whole};
+use port_base::{InPlaceOf, Rack, Sink, Source, Written, write_whole};
 
 /// Digits of a number at most.
 const DIGITS: usize = 20;

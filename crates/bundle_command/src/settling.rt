@@ -1,8 +1,8 @@
 // The end of the command: clients that may have more are asked once more, and how it ended.
 ghost use Rattle.std.specs.Prelude.{◌≡◌, ◌≢◌, ◌<◌, ◌≤◌, ◌*◌, ◌/◌, ◌&&◌, ℕ, List, length, nat_le, vec_len};
 ghost use Rattle.otn_base.specs.declared.limits.TheConstants.{CLIENT_FRAME_BYTES, CLIENT_PAYLOAD_BYTES, MOST_TURNS, NOMINAL};
-ghost use Rattle.otn_ports.specs.Racks.{bays_view};
-ghost use Rattle.otn_ports.specs.Views.{BaysView, line_out_at};
+ghost use Rattle.port_base.specs.Racks.{bays_view};
+ghost use Rattle.port_base.specs.Views.{BaysView, line_out_at};
 ghost use Rattle.bundle_command.specs.BundleStream.{payload_whole};
 ghost use Rattle.bundle_command.specs.Steps.Channels.{HasChannel, IsStanding, WeavingStands};
 ghost use Rattle.bundle_command.specs.Steps.Framed.{OnlyInputs};
@@ -11,7 +11,7 @@ ghost use Rattle.bundle_command.specs.Steps.Settled.{AllEnded, ChannelSettled, D
 use crate::channel::{Channel, Standing};
 use crate::weaving::Weaving;
 use otn_base::limits::{CLIENT_FRAME_BYTES, CLIENT_PAYLOAD_BYTES, NOMINAL};
-use otn_ports::{Ended, Rack, Sink, Source};
+use port_base::{Ended, Rack, Sink, Source};
 use tributary_line::{either, ended_by, is_dead_in, is_dead_out};
 
 /// Asks each channel once more whose last answer was a packet, in the order of the channels.

@@ -1,8 +1,8 @@
 // The stream of all channels: which one gives the next frame, and its bytes.
 ghost use Rattle.std.specs.Prelude.{◌≡◌, ◌≢◌, ◌<◌, ◌≤◌, ◌+◌, ◌++◌, ℕ, List, [], true, IfOk, length, take, vec_len};
 ghost use Rattle.otn_base.specs.declared.limits.TheConstants.{CLIENT_PAYLOAD_BYTES};
-ghost use Rattle.otn_ports.specs.Racks.{bays_view};
-ghost use Rattle.otn_ports.specs.Views.{BaysView};
+ghost use Rattle.port_base.specs.Racks.{bays_view};
+ghost use Rattle.port_base.specs.Views.{BaysView};
 ghost use Rattle.odu_client.specs.AlignedRuns.{payload_of};
 ghost use Rattle.gfp_linear.specs.Weaver.{HasWoven, woven_first};
 ghost use Rattle.packet_text.specs.LinesStand.{lines_view};
@@ -15,7 +15,7 @@ use frame_geometry::Frame;
 use gfp_linear::ChannelMaker;
 use otn_base::Memory;
 use otn_base::limits::CLIENT_COLUMNS;
-use otn_ports::{Rack, Sink, Source};
+use port_base::{Rack, Sink, Source};
 use std::alloc::Global;
 
 /// Bytes of a channel's frame beside its packet: core header, payload header, extension header and FCS.

@@ -5,8 +5,8 @@ use Rattle.std.specs.List.{concat}
 use Rattle.std.proofs.lemmas.Bool.{cases_lt}
 use Rattle.std.proofs.lemmas.List.Elements.{All-replicate, All-take}
 use Rattle.std.proofs.Math.Seq.{take-length}
-use Rattle.otn_ports.specs.Sent.{IsSent}
-use Rattle.otn_ports.specs.Views.{client_out_at}
+use Rattle.port_base.specs.Sent.{IsSent}
+use Rattle.port_base.specs.Views.{client_out_at}
 use Rattle.packet_text.specs.PacketText.{hex_text}
 use Rattle.gfp_linear.specs.Laws.{packets_on, woven_arrivals}
 use Rattle.gfp_linear.specs.Weave.{ChannelText, no_text, packets_given}

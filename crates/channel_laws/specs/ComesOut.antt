@@ -2,10 +2,10 @@
 use Rattle.std.specs.Prelude.{◌≡◌, ℕ, ◌+◌, ◌-◌, ◌*◌, ◌<◌, ◌≤◌, All, Bool, List, flat_map, length, get_or, slice_index}
 use Rattle.std.specs.List.{concat}
 use Rattle.otn_base.specs.declared.limits.TheConstants.{OTU2_SLOTS}
-use Rattle.otn_ports.specs.PortViews.{SinkView}
-use Rattle.otn_ports.specs.Sent.{IsSent}
-use Rattle.otn_ports.specs.Views.{BaysView, OutView, client_out_at}
-use Rattle.otn_ports.specs.declared.ended.Ended.{Ended}
+use Rattle.port_base.specs.PortViews.{SinkView}
+use Rattle.port_base.specs.Sent.{IsSent}
+use Rattle.port_base.specs.Views.{BaysView, OutView, client_out_at}
+use Rattle.port_base.specs.declared.ended.Ended.{Ended}
 use Rattle.packet_text.specs.PacketText.{hex_text}
 use Rattle.gfp_linear.specs.ChannelFrames.{IsCidList}
 use Rattle.gfp_linear.specs.Laws.{IsFront, arrivals_of, packets_on}

@@ -2,8 +2,8 @@
 use Rattle.std.proofs.Common.{◌≡◌, ◌≢◌, ◌<◌, ◌+◌, ◌∙◌, ◌⊎◌, ℕ, Bool, false, List, [], ◌++◌, Option, Some, None, Result, Ok, Err, length, nat_le, refl, sym, ap, subst, inl, inr, arith, append-nil, length-append}
 use Rattle.std.specs.Prelude.{unwrap_or}
 use Rattle.std.proofs.lemmas.Bool.Decides.{nat_tests}
-use Rattle.otn_ports.specs.Bytes.{before}
-use Rattle.otn_ports.specs.Reads.{HasEnded}
+use Rattle.port_base.specs.Bytes.{before}
+use Rattle.port_base.specs.Reads.{HasEnded}
 use Rattle.plan_file.specs.Answer.{plan_of_text}
 use Rattle.plan_file.specs.Meaning.{table_of_text}
 use Rattle.plan_file.proofs.Texts.{same_table}
@@ -12,7 +12,7 @@ use Rattle.plan_file.specs.declared.error.PlanError.{PlanError}
 use Rattle.plan_file.specs.declared.plan.Plan.{Plan}
 use Rattle.check_command.specs.PlanCheck.{CheckAnswers, check_status, CheckRun, CheckEnds}
 use Rattle.check_command.specs.Steps.PlanCheck.{PlanTold}
-use Rattle.otn_ports.specs.PortViews.{SourceView, SinkView, SinkLater}
+use Rattle.port_base.specs.PortViews.{SourceView, SinkView, SinkLater}
 use Rattle.command_base.specs.Device.{Device}
 use Rattle.check_command.specs.PlanReading.{IsAll, PlanReading, WasRead, most_read}
 use Rattle.command_base.specs.AnswerWords.{CountsBy, IsRefusal, IsWell}

@@ -2,11 +2,11 @@
 use Rattle.std.specs.Prelude.{◌≡◌, ◌≤◌, ℕ, List, [], ◌∷◌, ◌++◌, Option, Result, Ok, Err, length, codes}
 use Rattle.otn_base.specs.declared.memory.Memory.{Memory as NoMemory}
 use Rattle.std.specs.Fmt.{decimal}
-use Rattle.otn_ports.specs.Bytes.{before, after}
+use Rattle.port_base.specs.Bytes.{before, after}
 use Rattle.plan_file.specs.Answer.{plan_of_text}
 use Rattle.plan_file.specs.declared.error.NoPlan.TheVariants.{Refused}
 use Rattle.plan_file.specs.declared.plan.Plan.{Plan}
-use Rattle.otn_ports.specs.PortViews.{SourceView, SinkView, SourceLater, SinkLater}
+use Rattle.port_base.specs.PortViews.{SourceView, SinkView, SourceLater, SinkLater}
 use Rattle.command_base.specs.Gains.{GainsPart}
 use Rattle.check_command.specs.PlanReading.{WasRead, most_read}
 use Rattle.command_base.specs.AnswerWords.{CountsBy}

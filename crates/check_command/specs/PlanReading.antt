@@ -2,9 +2,9 @@
 use Rattle.std.specs.Prelude.{◌≡◌, ◌<◌, ◌≤◌, ◌⊎◌, ◌+◌, ℕ, List, [], None, Result, Ok, Err, length}
 use Rattle.otn_base.specs.declared.limits.TheConstants.{MOST_PLAN_BYTES}
 use Rattle.otn_base.specs.declared.memory.Memory.{Memory as NoMemory}
-use Rattle.otn_ports.specs.Bytes.{before}
-use Rattle.otn_ports.specs.PortViews.{SourceView, SourceLater}
-use Rattle.otn_ports.specs.Reads.{HasEnded}
+use Rattle.port_base.specs.Bytes.{before}
+use Rattle.port_base.specs.PortViews.{SourceView, SourceLater}
+use Rattle.port_base.specs.Reads.{HasEnded}
 use Rattle.plan_file.specs.Answer.{fault_in, plan_of_text}
 use Rattle.plan_file.specs.declared.error.NoPlan.TheVariants.{Refused}
 use Rattle.command_base.specs.AnswerWords.{CountsBy}

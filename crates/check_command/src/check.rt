@@ -1,6 +1,6 @@
 // The command `check`: whether the plan is one, and how large.
 ghost use Rattle.std.specs.Prelude.{◌≡◌, IfOk, string_bytes};
-ghost use Rattle.otn_ports.specs.PortViews.{source_view, sink_view, SinkLater};
+ghost use Rattle.port_base.specs.PortViews.{source_view, sink_view, SinkLater};
 ghost use Rattle.check_command.specs.PlanCheck.{CheckRun, check_status, plan_text};
 ghost use Rattle.check_command.specs.Steps.PlanCheck.{PlanTold};
 ghost use Rattle.command_base.specs.AnswerWords.{CountsBy, IsRefusal};
@@ -8,8 +8,8 @@ ghost use Rattle.command_base.specs.AnswerWords.{CountsBy, IsRefusal};
 use crate::plan_text::{Planned, read_plan};
 use command_base::Status;
 use otn_base::Memory;
-use otn_ports::{Sink, Source, Written, write_whole};
 use plan_file::{Plan, PlanError};
+use port_base::{Sink, Source, Written, write_whole};
 use std::alloc::{AllocError, Global};
 
 /// How `check` ended, once it had its memory.

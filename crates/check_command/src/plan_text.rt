@@ -1,12 +1,12 @@
 // The plan of a command, read of its source.
 ghost use Rattle.std.specs.Prelude.{◌≡◌, IfOk, vec_len};
-ghost use Rattle.otn_ports.specs.PortViews.{source_view};
+ghost use Rattle.port_base.specs.PortViews.{source_view};
 ghost use Rattle.check_command.specs.PlanReading.{PlanReading, most_read};
 
 use otn_base::Memory;
 use otn_base::limits::MOST_PLAN_BYTES;
-use otn_ports::{Reading, Source, read_whole};
 use plan_file::{NoPlan, Plan, PlanError};
+use port_base::{Reading, Source, read_whole};
 use std::alloc::{AllocError, Global};
 
 /// What a plan's source gave.

@@ -1,8 +1,8 @@
 // Whole frames, byte by byte and at once, and frames out of texts.
 use odu_client::{Aligned, ClientAligner, ClientFramer, FrameMaker};
 use otn_base::Trace;
-use otn_ports::{InPlaceOf, MemSource, Source};
 use packet_text::PacketLines;
+use port_base::{InPlaceOf, MemSource, Source};
 use std::alloc::{AllocError, Global};
 use std::test::Fail;
 

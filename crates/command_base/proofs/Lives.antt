@@ -1,7 +1,7 @@
 -- Whether a line is dead, and whether a report failed.
 use Rattle.std.proofs.Common.{◌≡◌, ◌≢◌, ◌∙◌, ◌⊎◌, sym, inl, inr, refl}
-use Rattle.otn_ports.specs.Given.{Lives}
-use Rattle.otn_ports.specs.Views.{State, Empty, Live, Dead, InView}
+use Rattle.port_base.specs.Given.{Lives}
+use Rattle.port_base.specs.Views.{State, Empty, Live, Dead, InView}
 use Rattle.command_base.specs.AnswerWords.{IsWell}
 use Rattle.command_base.specs.declared.status.Status.{Status}
 use Rattle.command_base.specs.declared.status.Status.TheVariants.{Done, Unfinished, Words, Plan, PlanFault, ReportFault, Cut, Memory}

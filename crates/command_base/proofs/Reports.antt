@@ -1,11 +1,11 @@
 -- A report from one step of a command to the next.
 use Rattle.std.proofs.Common.{◌≡◌, ◌∙◌, Option, None, Some, refl, subst}
-use Rattle.otn_ports.proofs.PortLaws.{sink_later_none, sink_later_twice}
-use Rattle.otn_ports.specs.Bytes.{HasFailed}
-use Rattle.otn_ports.specs.PortViews.{SinkView}
+use Rattle.port_base.proofs.PortLaws.{sink_later_none, sink_later_twice}
+use Rattle.port_base.specs.Bytes.{HasFailed}
+use Rattle.port_base.specs.PortViews.{SinkView}
 use Rattle.command_base.specs.Ends.{FaultsBy, ReportAfter}
-use Rattle.otn_ports.specs.declared.ended.Ended.{Ended}
-use Rattle.otn_ports.specs.declared.ended.Ended.TheVariants.{Done, Unfinished, Cut, ReportFault, Memory}
+use Rattle.port_base.specs.declared.ended.Ended.{Ended}
+use Rattle.port_base.specs.declared.ended.Ended.TheVariants.{Done, Unfinished, Cut, ReportFault, Memory}
 
 pub report_same : (s : SinkView) → ReportAfter None s s
 report_same s = record { later = sink_later_none s; faults = refl }

@@ -1,7 +1,7 @@
 -- Believed: what the records of the commands share: what a report gained, which answers a line has and which refuse,
 -- and faults.
 use Rattle.std.specs.Prelude.{◌≡◌, ◌≢◌, ℕ, List, Option}
-use Rattle.otn_ports.specs.Bytes.{after, HasFailed}
+use Rattle.port_base.specs.Bytes.{after, HasFailed}
 use Rattle.command_base.specs.Gains.{GainsPart}
 use Rattle.command_base.specs.declared.status.Status.{Status}
 use Rattle.command_base.specs.declared.status.Status.TheVariants.{Done, Unfinished, Words, Plan, PlanFault, ReportFault, Cut, Memory}

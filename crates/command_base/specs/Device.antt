@@ -1,13 +1,13 @@
 -- Believed: what is seen of all that a command is handed: the plan's source, the places and the report.
 use Rattle.std.specs.Prelude.{ℕ, List}
-use Rattle.otn_ports.specs.Given.{Gave}
-use Rattle.otn_ports.specs.OnePlace.{OnlyLineIn}
-use Rattle.otn_ports.specs.PortViews.{SourceView, SinkView, SourceLater, SinkLater, source_view, sink_view}
-use Rattle.otn_ports.specs.Racks.{bays_view}
-use Rattle.otn_ports.specs.Views.{BaysView, InView, line_in_at}
-use Rattle.otn_ports.specs.declared.bays.Rack.{Rack}
-use Rattle.otn_ports.specs.declared.sink.Sink as sink
-use Rattle.otn_ports.specs.declared.source.Source as source
+use Rattle.port_base.specs.Given.{Gave}
+use Rattle.port_base.specs.OnePlace.{OnlyLineIn}
+use Rattle.port_base.specs.PortViews.{SourceView, SinkView, SourceLater, SinkLater, source_view, sink_view}
+use Rattle.port_base.specs.Racks.{bays_view}
+use Rattle.port_base.specs.Views.{BaysView, InView, line_in_at}
+use Rattle.port_base.specs.declared.bays.Rack.{Rack}
+use Rattle.port_base.specs.declared.sink.Sink as sink
+use Rattle.port_base.specs.declared.source.Source as source
 
 -- all that the top call is handed but its words and the chooser
 pub record Device : Type 0 where

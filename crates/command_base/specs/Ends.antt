@@ -1,9 +1,9 @@
 -- Believed: how a command ends, and what the top call then answers.
 use Rattle.std.specs.Prelude.{◌≡◌, Option, Some}
-use Rattle.otn_ports.specs.Bytes.{HasFailed}
-use Rattle.otn_ports.specs.PortViews.{SinkView, SinkLater}
-use Rattle.otn_ports.specs.declared.ended.Ended.{Ended}
-use Rattle.otn_ports.specs.declared.ended.Ended.TheVariants.{Done, Unfinished, Cut, ReportFault, Memory}
+use Rattle.port_base.specs.Bytes.{HasFailed}
+use Rattle.port_base.specs.PortViews.{SinkView, SinkLater}
+use Rattle.port_base.specs.declared.ended.Ended.{Ended}
+use Rattle.port_base.specs.declared.ended.Ended.TheVariants.{Done, Unfinished, Cut, ReportFault, Memory}
 use Rattle.command_base.specs.declared.status.Status.{Status}
 use Rattle.command_base.specs.declared.status.Status.TheVariants as status
 

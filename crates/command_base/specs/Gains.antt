@@ -1,6 +1,6 @@
 -- Believed: what a report gains where a write of it fails.
 use Rattle.std.specs.Prelude.{◌≡◌, ◌<◌, ℕ, List, Option, length, take}
-use Rattle.otn_ports.specs.Bytes.{after}
+use Rattle.port_base.specs.Bytes.{after}
 
 -- a report gained a part of these bytes, from the front, and not all
 pub record GainsPart (old new : Option (List ℕ)) (bytes : List ℕ) : Type 0 where

@@ -1,10 +1,10 @@
 // After the most that a command reads: whether the line has more.
 ghost use Rattle.std.specs.Prelude.{◌≢◌};
-ghost use Rattle.otn_ports.specs.InPlace.{in_view};
-ghost use Rattle.otn_ports.specs.Views.{Dead};
+ghost use Rattle.port_base.specs.InPlace.{in_view};
+ghost use Rattle.port_base.specs.Views.{Dead};
 ghost use Rattle.command_base.specs.Beyond.{ByteRun};
 
-use otn_ports::{Ended, InPlaceOf, Source, ask_byte};
+use port_base::{Ended, InPlaceOf, Source, ask_byte};
 
 /// Asks a line for one byte more: Unfinished where it comes, Done where the line has ended, Cut where the read failed.
 pub fn ask_for_more<I: Source>(line: &mut InPlaceOf<I>) -> Ended

@@ -3,7 +3,7 @@ ghost use Rattle.std.specs.Prelude.{◌≡◌};
 ghost use Rattle.command_base.specs.Ends.{line_status};
 
 use crate::Status;
-use otn_ports::Ended;
+use port_base::Ended;
 
 /// The answer of the top call to a command that ended so.
 pub fn status_of(ended: Ended) -> Status

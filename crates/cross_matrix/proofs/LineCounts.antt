@@ -5,13 +5,13 @@ use Rattle.std.proofs.lemmas.List.{take-append-drop, take-append-le, length-take
 use Rattle.std.proofs.Math.Seq.{take-length, drop-length}
 use Rattle.std.proofs.lemmas.List.Elements.{filter-append}
 use Rattle.hex.specs.Hex.{lower_digits, encode_with, encode_lower}
-use Rattle.otn_ports.specs.Given.{Lives, Gained}
-use Rattle.otn_ports.specs.Sent.{IsSent}
-use Rattle.otn_ports.specs.Views.{State, Empty, Live, Dead, is_dead, OutView}
-use Rattle.otn_ports.specs.Writes.{IsWriting, state_after_write}
-use Rattle.otn_ports.specs.declared.drain.Written.{Written}
-use Rattle.otn_ports.specs.declared.drain.Written.TheVariants as written
-use Rattle.otn_ports.proofs.GivenLaws.{gained_twice, empty_not_live, dead_not_live}
+use Rattle.port_base.specs.Given.{Lives, Gained}
+use Rattle.port_base.specs.Sent.{IsSent}
+use Rattle.port_base.specs.Views.{State, Empty, Live, Dead, is_dead, OutView}
+use Rattle.port_base.specs.Writes.{IsWriting, state_after_write}
+use Rattle.port_base.specs.declared.drain.Written.{Written}
+use Rattle.port_base.specs.declared.drain.Written.TheVariants as written
+use Rattle.port_base.proofs.GivenLaws.{gained_twice, empty_not_live, dead_not_live}
 use Rattle.otn_base.specs.Counts.{saturated}
 use Rattle.packet_text.specs.PacketText.{packet_line, hex_text}
 use Rattle.device_model.specs.Numbers.{whole_lines, counted_packets}

@@ -7,8 +7,8 @@ use Rattle.odu_client.specs.ClientFrames.{stream_part}
 use Rattle.odu_client.specs.ClientInput.{ClientInput, input_of, input_emits, emitted_before, pace_of, packets_begun, is_spent, bad_line}
 use Rattle.odu_client.specs.Framing.{FramerState, ClientStands, Fills, MayDie}
 use Rattle.odu_client.specs.FramerSteps.{fresh_framer}
-use Rattle.otn_ports.specs.Views.{InView}
-use Rattle.otn_ports.proofs.Lists.{take_all}
+use Rattle.port_base.specs.Views.{InView}
+use Rattle.port_base.proofs.Lists.{take_all}
 use Rattle.packet_text.specs.LinesStand.{LinesView, lines_view, fresh_lines, MayBe}
 use Rattle.otn_base.specs.Counts.{saturated}
 use Rattle.packet_text.specs.PacketText.{packets_of}

@@ -1,7 +1,7 @@
 -- The moves of a pipe, where it stands.
 use Rattle.std.proofs.Common.{◌≡◌, ◌≤◌, ◌+◌, ◌-◌, ◌/◌, ◌∙◌, ℕ, suc, Bool, true, false, List, [], ◌∷◌, ◌++◌, length, Option, refl, sym, ap, subst, arith}
 use Rattle.otn_base.specs.LineSlots.{LineSlots}
-use Rattle.otn_ports.specs.Views.{InView, OutView}
+use Rattle.port_base.specs.Views.{InView, OutView}
 use Rattle.odu_client.specs.ClientInput.{ClientInput, input_emits, pace_of}
 use Rattle.plan_file.specs.declared.connection.Connection.{Connection}
 use Rattle.plan_file.specs.declared.connection.FromEnd.{FromEnd}

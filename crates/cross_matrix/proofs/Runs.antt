@@ -15,8 +15,8 @@ use Rattle.odu_client.specs.ClientOutput.{arriving_packets, arriving_text, arriv
 use Rattle.odu_client.specs.OutputSteps.{OutputState, OutputStep}
 use Rattle.odu_client.specs.View.{frames_after}
 use Rattle.odu_client.specs.declared.aligned.Aligned.{Aligned}
-use Rattle.otn_ports.specs.Views.{State, Empty, Live, Dead, OutView}
-use Rattle.otn_ports.proofs.GivenLaws.{gained_none}
+use Rattle.port_base.specs.Views.{State, Empty, Live, Dead, OutView}
+use Rattle.port_base.proofs.GivenLaws.{gained_none}
 use Rattle.otn_base.specs.Counts.{saturated}
 use Rattle.packet_text.specs.PacketText.{hex_text}
 use Rattle.device_model.specs.Numbers.{counted_packets}

@@ -3,7 +3,7 @@ use Rattle.std.specs.Prelude.{◌≡◌, ◌≢◌, ⊤, ℕ, suc, Bool, true, f
 use Rattle.maintenance_signals.specs.Emitted.{HasEmitted}
 use Rattle.odu_client.specs.ClientInput.{ClientInput, input_of, emitted_before}
 use Rattle.odu_client.specs.Framing.{ClientStands, MayDie}
-use Rattle.otn_ports.specs.Views.{InView, OutView}
+use Rattle.port_base.specs.Views.{InView, OutView}
 use Rattle.packet_text.specs.LinesStand.{LinesView, lines_view, MayBe}
 use Rattle.packet_text.specs.declared.line.Line.TheVariants.{Packet}
 use Rattle.plan_file.specs.declared.connection.Connection.{Connection}

@@ -2,7 +2,7 @@
 use Rattle.std.specs.Prelude.{◌≡◌, ◌≤◌, ◌+◌, ◌*◌, ℕ, suc, Bool, true, false, List, [], All, ◌++◌, length, Option}
 use Rattle.otn_base.specs.LineSlots.{LineSlots}
 use Rattle.otn_base.specs.declared.limits.TheConstants.{GROUPS}
-use Rattle.otn_ports.specs.Views.{InView}
+use Rattle.port_base.specs.Views.{InView}
 use Rattle.plan_file.specs.declared.connection.Connection.{Connection}
 use Rattle.plan_file.specs.declared.connection.FromEnd.TheVariants as from_end
 use Rattle.plan_file.specs.declared.connection.ToEnd.TheVariants as to_end

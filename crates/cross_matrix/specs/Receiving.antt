@@ -1,7 +1,7 @@
 -- API: a client's output: the packets that arrive, written as text.
 use Rattle.std.specs.Prelude.{◌≡◌, ℕ, List, [], ◌∷◌}
-use Rattle.otn_ports.specs.Sent.{IsSent}
-use Rattle.otn_ports.specs.Views.{OutView}
+use Rattle.port_base.specs.Sent.{IsSent}
+use Rattle.port_base.specs.Views.{OutView}
 use Rattle.gfp_frames.specs.Reader.{ReaderState, HasRead}
 use Rattle.odu_client.specs.AlignedRuns.{arrivals, runs_of}
 use Rattle.odu_client.specs.Aligner.{AlignerState, HasAligned}

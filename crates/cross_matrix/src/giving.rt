@@ -2,8 +2,8 @@
 ghost use Rattle.std.specs.Prelude.{◌≡◌, ◌<◌, ◌≤◌, ◌+◌, ◌-◌, ◌*◌, ◌/◌, ◌&&◌, ℕ, true, false, List, [], ◌∷◌, ◌++◌, IsSome, is_some, length, nat_lt};
 ghost use Rattle.otn_base.specs.LineSlots.{slots_of};
 ghost use Rattle.otn_base.specs.declared.limits.TheConstants.{GROUPS, LINE_COLUMNS as COLUMNS, ROWS};
-ghost use Rattle.otn_ports.specs.OutPlace.{out_view};
-ghost use Rattle.otn_ports.specs.Views.{OutView};
+ghost use Rattle.port_base.specs.OutPlace.{out_view};
+ghost use Rattle.port_base.specs.Views.{OutView};
 ghost use Rattle.plan_file.specs.declared.connection.Connection.{Connection};
 ghost use Rattle.plan_file.specs.declared.connection.ToEnd.{ToEnd};
 ghost use Rattle.trib_source.specs.Source.{StandsAfter};
@@ -18,7 +18,7 @@ ghost use Rattle.cross_matrix.specs.Parts.{OnSource, OnReceiver, IsToClient, Giv
 use crate::receiver::Receiver;
 use odtu_columns::FillFrame;
 use otn_base::Burst;
-use otn_ports::{OutPlaceOf, Sink};
+use port_base::{OutPlaceOf, Sink};
 use trib_source::TribSource;
 
 /// What a pipe gives to: a tributary of a line, or a client.

@@ -1,17 +1,17 @@
 // The lines of packets for a client's output, held until many of them leave at once.
 ghost use Rattle.std.specs.Prelude.{◌≡◌, ◌+◌, ◌*◌, ◌≤◌, ◌∷◌, ◌++◌, ℕ, List, [], length, take, IfOk};
 ghost use Rattle.otn_base.specs.declared.limits.TheConstants.{MOST_DELIVERED};
-ghost use Rattle.otn_ports.specs.OutPlace.{out_view};
-ghost use Rattle.otn_ports.specs.Views.{OutView};
-ghost use Rattle.otn_ports.specs.declared.drain.Written.TheVariants.{Whole, Lost};
+ghost use Rattle.port_base.specs.OutPlace.{out_view};
+ghost use Rattle.port_base.specs.Views.{OutView};
+ghost use Rattle.port_base.specs.declared.drain.Written.TheVariants.{Whole, Lost};
 ghost use Rattle.device_model.specs.Numbers.{whole_lines};
 ghost use Rattle.packet_text.specs.PacketText.{packet_line};
 ghost use Rattle.cross_matrix.specs.declared.held_lines.TheConstants.{ROOM};
 
 use otn_base::Memory;
 use otn_base::limits::MOST_DELIVERED;
-use otn_ports::{OutPlaceOf, Sink, Written, is_dead_out};
 use packet_text::ByteDigits;
+use port_base::{OutPlaceOf, Sink, Written, is_dead_out};
 use std::alloc::Global;
 use std::marker::Model;
 

@@ -5,9 +5,9 @@ ghost use Rattle.std.specs.Prelude.{◌≡◌, ◌<◌, ◌≤◌, ◌+◌, ◌*
 ghost use Rattle.otn_base.specs.LineSlots.{slots_of};
 ghost use Rattle.otn_base.specs.declared.limits.TheConstants.{GROUPS, LINE_COLUMNS as COLUMNS, ROWS};
 ghost use Rattle.odu_client.specs.ClientInput.{packets_begun, is_spent, bad_line, emitted_before};
-ghost use Rattle.otn_ports.specs.InPlace.{in_view};
-ghost use Rattle.otn_ports.specs.OutPlace.{out_view};
-ghost use Rattle.otn_ports.specs.Views.{InView, OutView};
+ghost use Rattle.port_base.specs.InPlace.{in_view};
+ghost use Rattle.port_base.specs.OutPlace.{out_view};
+ghost use Rattle.port_base.specs.Views.{InView, OutView};
 ghost use Rattle.otn_base.specs.Counts.{saturated};
 ghost use Rattle.plan_file.specs.declared.connection.Connection.{Connection};
 ghost use Rattle.plan_file.specs.declared.connection.FromEnd.TheVariants as from_end;
@@ -24,7 +24,7 @@ use crate::giving::GivingPart;
 use crate::taking::{TakingPart, pace_at};
 use odtu_columns::{FillFrame, TakeFrame};
 use otn_base::Burst;
-use otn_ports::{InPlaceOf, OutPlaceOf, Sink, Source};
+use port_base::{InPlaceOf, OutPlaceOf, Sink, Source};
 use std::marker::Model;
 use std::mem;
 

@@ -3,8 +3,8 @@ ghost use Rattle.std.specs.Prelude.{◌≡◌, ◌≤◌, ◌++◌, ℕ, List, [
 ghost use Rattle.odu_client.specs.AlignedRuns.{Arrival, payload_of};
 ghost use Rattle.odu_client.specs.Aligner.{news};
 ghost use Rattle.odu_client.specs.View.{aligner_state};
-ghost use Rattle.otn_ports.specs.OutPlace.{out_view};
-ghost use Rattle.otn_ports.specs.Views.{OutView};
+ghost use Rattle.port_base.specs.OutPlace.{out_view};
+ghost use Rattle.port_base.specs.Views.{OutView};
 ghost use Rattle.cross_matrix.specs.Steps.Receiving.{RunRead, AllRead, HoldsAfter};
 
 use crate::held_lines::HeldLines;
@@ -13,7 +13,7 @@ use gfp_frames::GfpReader;
 use odu_client::{Aligned, ClientAligner};
 use otn_base::Memory;
 use otn_base::limits::CLIENT_COLUMNS;
-use otn_ports::{OutPlaceOf, Sink};
+use port_base::{OutPlaceOf, Sink};
 use std::alloc::Global;
 use std::marker::Model;
 

@@ -1,6 +1,6 @@
 -- A place that is emptied twice, or once of two times.
 use Rattle.std.proofs.Common.{◌≡◌, Bool, true, false, ◌||◌, refl, sym}
-use Rattle.otn_ports.specs.Views.{State, Empty, Live, Dead, InView, OutView}
+use Rattle.port_base.specs.Views.{State, Empty, Live, Dead, InView, OutView}
 use Rattle.device_model.specs.RetiredPlaces.{after_retire, out_after_retire}
 
 retired_twice : (v : InView) (s : State) → v.state ≡ s → after_retire true (after_retire true v) ≡ after_retire true v

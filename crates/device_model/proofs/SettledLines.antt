@@ -5,9 +5,9 @@ use Rattle.std.proofs.lemmas.Bool.Decides.{nat_tests}
 use Rattle.otn_base.specs.LineSlots.{slots_of}
 use Rattle.otn_base.specs.declared.line_kind.LineKind.{LineKind}
 use Rattle.otn_base.specs.declared.line_kind.LineKind.TheVariants.{Otu2, Otu3}
-use Rattle.otn_ports.specs.Reads.{HasEnded}
-use Rattle.otn_ports.specs.Views.{State, Empty, Live, Dead, InView}
-use Rattle.otn_ports.proofs.GivenLaws.{gave_twice, dead_not_live}
+use Rattle.port_base.specs.Reads.{HasEnded}
+use Rattle.port_base.specs.Views.{State, Empty, Live, Dead, InView}
+use Rattle.port_base.proofs.GivenLaws.{gave_twice, dead_not_live}
 use Rattle.line_side.specs.LineForm.{LineForm, size_of, through_mask}
 use Rattle.line_side.specs.LineFile.{mfas_of}
 use Rattle.line_side.specs.LineStands.{LineView, LineStands, IsLine}
@@ -21,7 +21,7 @@ use Rattle.line_side.proofs.Mfas.{length_mfas}
 use Rattle.multiframe.specs.LineTurns.{Lock, LineState, Hunting, Locked, Ended, Outcome, CutShort, Lost, Whole, lock_from, least_start, outcome_of, after_outcome, after_hunt, after_turn, line_state, wanted, wanted_in, wanted_from, wanted_so_far}
 use Rattle.device_model.specs.Moments.{line_read}
 use Rattle.device_model.specs.Numbers.{ending_of, line_ending}
-use Rattle.otn_ports.specs.Asked.{ByteAsked, has_come}
+use Rattle.port_base.specs.Asked.{ByteAsked, has_come}
 use Rattle.device_model.specs.LineAsked.{is_seen, MayHave, InputLeft}
 
 -- ---- between turns nothing more is wanted than by the turns before

@@ -1,8 +1,8 @@
 -- Believed: what the inputs of a run gave, where their ports tell it.
 use Rattle.std.specs.Prelude.{◌≡◌, ◌≢◌, ℕ, Bool, true, false, List}
 use Rattle.otn_base.specs.declared.kind.PortName.TheVariants as port
-use Rattle.otn_ports.specs.Given.{HadToGive}
-use Rattle.otn_ports.specs.Views.{State, Empty, Live, Dead, BaysView, line_in_at, client_in_at}
+use Rattle.port_base.specs.Given.{HadToGive}
+use Rattle.port_base.specs.Views.{State, Empty, Live, Dead, BaysView, line_in_at, client_in_at}
 use Rattle.line_side.specs.LineForm.{through_mask}
 use Rattle.odu_client.specs.ClientInput.{input_given}
 use Rattle.plan_file.specs.declared.plan.Plan.{Plan}

@@ -4,7 +4,7 @@ use Rattle.std.specs.Fmt.{decimal}
 use Rattle.std.specs.List.{concat, flat_map, range_with_len}
 use Rattle.otn_base.specs.declared.kind.PortName.TheVariants as port
 use Rattle.otn_base.specs.declared.limits.TheConstants.{CLIENTS, LINES}
-use Rattle.otn_ports.specs.Views.{State, Empty, Live, Dead, BaysView}
+use Rattle.port_base.specs.Views.{State, Empty, Live, Dead, BaysView}
 use Rattle.line_side.specs.declared.counts.LineCounts.{LineCounts}
 use Rattle.plan_file.specs.declared.connection.Connection.{Connection}
 use Rattle.plan_file.specs.declared.plan.Plan.{Plan}

@@ -1,7 +1,7 @@
 -- Believed: the place of a client after the stop of its connection.
 use Rattle.std.specs.Prelude.{Bool, if◌then◌else◌}
-use Rattle.otn_ports.specs.Retiring.{retired_in, retired_out}
-use Rattle.otn_ports.specs.Views.{InView, OutView}
+use Rattle.port_base.specs.Retiring.{retired_in, retired_out}
+use Rattle.port_base.specs.Views.{InView, OutView}
 
 -- a client's place, input or output, after the stop of its connection, which retires or not
 abbrev pub after_retire : Bool → InView → InView

@@ -4,8 +4,8 @@ use Rattle.std.specs.Prelude.{◌≡◌, ℕ, suc, min, Bool, true, false, List,
 use Rattle.std.specs.List.{Contains}
 use Rattle.otn_base.specs.declared.kind.PortName.{PortName}
 use Rattle.otn_base.specs.declared.kind.PortName.TheVariants as port
-use Rattle.otn_ports.specs.Given.{Gained}
-use Rattle.otn_ports.specs.Views.{Live, InView, OutView, BaysView, line_in_at, line_out_at, client_in_at, client_out_at}
+use Rattle.port_base.specs.Given.{Gained}
+use Rattle.port_base.specs.Views.{Live, InView, OutView, BaysView, line_in_at, line_out_at, client_in_at, client_out_at}
 use Rattle.line_side.specs.LineForm.{through_mask}
 use Rattle.packet_text.specs.LinesStand.{ReadAsNeeded}
 use Rattle.odu_client.specs.ClientInput.{ClientInput, input_given, packets_asked}

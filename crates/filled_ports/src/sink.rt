@@ -1,9 +1,9 @@
 // A sink whose bytes are taken out and let go of.
 ghost use Rattle.std.specs.Prelude.{◌≡◌, ◌≤◌, ◌++◌, [], false, Some, IfOk, OnErr, length};
-ghost use Rattle.otn_ports.specs.Bytes.{sent, faults_after, HasFailed};
+ghost use Rattle.port_base.specs.Bytes.{sent, faults_after, HasFailed};
 
-use otn_ports::{Failed, Sink};
 use past_bytes::{Past, Taken};
+use port_base::{Failed, Sink};
 use std::alloc::Global;
 
 /// Tells all bytes that it got, and keeps those that it was not told to let go of, in memory that grows as they come.

@@ -1,10 +1,10 @@
 // A source to which bytes are handed in as they come.
 ghost use Rattle.std.specs.Prelude.{◌≡◌, ◌≢◌, ◌≤◌, ◌++◌, [], Some, Ok, false, true, OnOk, OnErr, length, vec_len, min};
-ghost use Rattle.otn_ports.specs.Bytes.{before, read_by};
-ghost use Rattle.otn_ports.specs.Reads.{ended_after};
+ghost use Rattle.port_base.specs.Bytes.{before, read_by};
+ghost use Rattle.port_base.specs.Reads.{ended_after};
 
 use otn_base::Memory;
-use otn_ports::{Failed, Source};
+use port_base::{Failed, Source};
 use std::alloc::Global;
 use std::mem::swap;
 

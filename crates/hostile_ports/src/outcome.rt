@@ -3,7 +3,7 @@ use crate::places::Places;
 use crate::ports::Got;
 use crate::traces::Traces;
 use otn_base::limits::{CLIENTS, LINES};
-use otn_ports::{InPlaceOf, OutPlaceOf};
+use port_base::{InPlaceOf, OutPlaceOf};
 use std::alloc::{AllocError, Global};
 use std::io::ErrorKind;
 use std::{fs, io};

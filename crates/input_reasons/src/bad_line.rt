@@ -1,6 +1,6 @@
 // Why a line of a packet text is no packet.
 use otn_base::Memory;
-use otn_ports::Source;
+use port_base::Source;
 use std::alloc::Global;
 
 /// The most digits of a line.

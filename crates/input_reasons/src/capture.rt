@@ -1,7 +1,7 @@
 // What stands in a capture.
 use crate::Packets;
 use otn_base::Memory;
-use otn_ports::{Reading, Source, read_whole};
+use port_base::{Reading, Source, read_whole};
 use std::alloc::Global;
 
 /// The most bytes of a packet.

@@ -1,6 +1,6 @@
 // Whether a file looks like a line.
 use otn_base::Memory;
-use otn_ports::{Reading, Source, read_whole};
+use port_base::{Reading, Source, read_whole};
 use std::alloc::{AllocError, Global};
 
 /// Bytes of a frame.

@@ -1,8 +1,8 @@
 // What stands in a packet text.
 use crate::Packets;
 use otn_base::Memory;
-use otn_ports::{InPlaceOf, Source};
 use packet_text::{Line, PacketLines};
+use port_base::{InPlaceOf, Source};
 use std::alloc::Global;
 
 /// What stands in a packet text.

@@ -1,14 +1,14 @@
 -- The bytes at hand of a place.
 use Rattle.std.proofs.Common.{◌≡◌, ◌<◌, ℕ, length, refl, subst, arith}
-use Rattle.otn_ports.specs.InPlace.{in_view}
-use Rattle.otn_ports.specs.Views.{Live}
-use Rattle.otn_ports.specs.Writes.{IsWriting}
-use Rattle.otn_ports.specs.declared.drain.Written.TheVariants.{Whole, Lost}
-use Rattle.otn_ports.specs.declared.drain.Written.{Written}
-use Rattle.otn_ports.specs.declared.source.Source.{Ghosts}
-use Rattle.otn_ports.specs.declared.in_place.InPlaceOf.{InPlaceOf}
-use Rattle.otn_ports.specs.declared.in_place.InPlaceOf.TheVariants as place
-use Rattle.otn_ports.specs.AtHand.{place_at_hand}
+use Rattle.port_base.specs.InPlace.{in_view}
+use Rattle.port_base.specs.Views.{Live}
+use Rattle.port_base.specs.Writes.{IsWriting}
+use Rattle.port_base.specs.declared.drain.Written.TheVariants.{Whole, Lost}
+use Rattle.port_base.specs.declared.drain.Written.{Written}
+use Rattle.port_base.specs.declared.source.Source.{Ghosts}
+use Rattle.port_base.specs.declared.in_place.InPlaceOf.{InPlaceOf}
+use Rattle.port_base.specs.declared.in_place.InPlaceOf.TheVariants as place
+use Rattle.port_base.specs.AtHand.{place_at_hand}
 
 -- a place with bytes at hand is live
 pub live_hand : {P : Type 0} (source : Ghosts P) (at : InPlaceOf P) → 0 < length (place_at_hand source at) → (in_view source at).state ≡ Live

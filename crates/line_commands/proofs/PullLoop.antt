@@ -2,12 +2,12 @@
 use Rattle.std.proofs.Common.{◌≡◌, ◌≢◌, ◌<◌, ◌≤◌, ◌+◌, ◌*◌, ◌/◌, ◌%◌, ◌∙◌, ◌⊎◌, ℕ, Bool, true, false, List, [], ◌++◌, Option, Some, None, length, ltb, min, refl, sym, ap, subst, inl, inr, arith, append-nil, append_assoc, length-append}
 use Rattle.std.proofs.lemmas.Bool.{ltb-true, ltb-false}
 use Rattle.std.proofs.lemmas.List.{take-append-le}
-use Rattle.otn_ports.proofs.GivenLaws.{gave_twice}
-use Rattle.otn_ports.proofs.TakenTwice.{after-after}
-use Rattle.otn_ports.specs.Bytes.{after}
-use Rattle.otn_ports.specs.Given.{Gave, DiedUnended}
-use Rattle.otn_ports.specs.Reads.{HasEnded}
-use Rattle.otn_ports.specs.Views.{Live, Dead, InView}
+use Rattle.port_base.proofs.GivenLaws.{gave_twice}
+use Rattle.port_base.proofs.TakenTwice.{after-after}
+use Rattle.port_base.specs.Bytes.{after}
+use Rattle.port_base.specs.Given.{Gave, DiedUnended}
+use Rattle.port_base.specs.Reads.{HasEnded}
+use Rattle.port_base.specs.Views.{Live, Dead, InView}
 use Rattle.line_side.specs.LineForm.{plain_otu2}
 use Rattle.line_side.specs.LineFile.{mfas_of}
 use Rattle.line_side.specs.LineStands.{LineView}
@@ -17,7 +17,7 @@ use Rattle.line_side.specs.declared.ending.Ending.{Ending}
 use Rattle.line_side.specs.declared.ending.Ending.TheVariants.{Open, Seen, Died}
 use Rattle.multiframe.specs.LineTurns.{line_state, has_ended}
 use Rattle.tributary_model.specs.Places.{Tributary}
-use Rattle.otn_ports.specs.PortViews.{SinkView}
+use Rattle.port_base.specs.PortViews.{SinkView}
 use Rattle.command_base.specs.Ends.{ReportAfter}
 use Rattle.command_base.specs.Gains.{GainsPart}
 use Rattle.device_model.specs.LineViews.{emitted_at}
@@ -28,8 +28,8 @@ use Rattle.line_commands.specs.PullReport.{MayFollow}
 use Rattle.tributary_line.specs.TapTurn.{TapView, TapStands}
 use Rattle.line_commands.specs.declared.pull.After.{After}
 use Rattle.line_commands.specs.declared.pull.After.TheVariants as next
-use Rattle.otn_ports.specs.declared.ended.Ended.{Ended}
-use Rattle.otn_ports.specs.declared.ended.Ended.TheVariants.{Done, Unfinished, Cut, ReportFault, Memory}
+use Rattle.port_base.specs.declared.ended.Ended.{Ended}
+use Rattle.port_base.specs.declared.ended.Ended.TheVariants.{Done, Unfinished, Cut, ReportFault, Memory}
 use Rattle.line_commands.proofs.PullEnds.{took_so_far, TookWanted, took_wanted, frames_there}
 use Rattle.line_commands.proofs.PullTurns.{turn_count, written_first, written_all}
 use Rattle.command_base.proofs.Rows.{flat_map-range_more}

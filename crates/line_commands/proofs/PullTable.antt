@@ -1,9 +1,9 @@
 -- The answers of `pull`, and what it wrote, by what its line gave.
 use Rattle.std.proofs.Common.{◌≡◌, ◌≢◌, ◌<◌, ◌-◌, ◌%◌, ◌^◌, ◌∙◌, ◌⊎◌, ◌↔◌, ℕ, Bool, true, false, List, [], ◌++◌, Option, Some, IfSome, length, sym, ap, subst, inl, inr, refl, arith, append-nil}
-use Rattle.otn_ports.proofs.GivenLaws.{Beyond, given_of_gave, taken_counted}
-use Rattle.otn_ports.specs.Given.{Gave, HadToGive}
-use Rattle.otn_ports.specs.Reads.{HasEnded}
-use Rattle.otn_ports.specs.Views.{State, Empty, Live, Dead, InView}
+use Rattle.port_base.proofs.GivenLaws.{Beyond, given_of_gave, taken_counted}
+use Rattle.port_base.specs.Given.{Gave, HadToGive}
+use Rattle.port_base.specs.Reads.{HasEnded}
+use Rattle.port_base.specs.Views.{State, Empty, Live, Dead, InView}
 use Rattle.tributary_model.specs.Places.{Tributary}
 use Rattle.line_commands.specs.LineAnswers.{LineAnswers, PullRan}
 use Rattle.command_base.specs.Device.{Device, line_zero}
@@ -12,8 +12,8 @@ use Rattle.line_commands.specs.PullReport.{LeavesBytes, bytes_read, pull_report}
 use Rattle.line_commands.specs.PullRuns.{PullEnded}
 use Rattle.line_commands.specs.PullReport.{MayFollow, StoppedInTurn}
 use Rattle.command_base.specs.AnswerWords.{IsWell, Reports}
-use Rattle.otn_ports.specs.declared.ended.Ended.{Ended}
-use Rattle.otn_ports.specs.declared.ended.Ended.TheVariants.{Done, Unfinished, Cut, ReportFault, Memory}
+use Rattle.port_base.specs.declared.ended.Ended.{Ended}
+use Rattle.port_base.specs.declared.ended.Ended.TheVariants.{Done, Unfinished, Cut, ReportFault, Memory}
 use Rattle.command_base.specs.declared.status.Status.{Status}
 use Rattle.command_base.specs.declared.status.Status.TheVariants as status
 use Rattle.command_base.proofs.Lives.{still_alive}

@@ -8,8 +8,8 @@ use borrow.Rule.Slice.PartMut.{put_mid}
 use Rattle.frame_geometry.specs.Places.{place_of, payload_row_of}
 use Rattle.odtu_columns.specs.Columns.{slot_row_of}
 use Rattle.odtu_columns.proofs.Rows.{slot_row_is, slot_row_of-cycles}
-use Rattle.otn_ports.proofs.FrontLaws.{front_length}
-use Rattle.otn_ports.specs.Fronts.{IsFront}
+use Rattle.port_base.proofs.FrontLaws.{front_length}
+use Rattle.port_base.specs.Fronts.{IsFront}
 use Rattle.line_side.specs.LineFile.{frame_at}
 use Rattle.line_commands.specs.SlotReport.{slot_bytes, slot_bytes_until}
 use Rattle.line_commands.proofs.LineFrames.{until-append, until-more, until-none, frame_at-append}

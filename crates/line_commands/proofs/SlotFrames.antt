@@ -2,20 +2,20 @@
 use Rattle.std.proofs.Common.{◌≡◌, ◌≢◌, ◌<◌, ◌≤◌, ◌+◌, ◌*◌, ◌/◌, ◌%◌, ◌∙◌, ℕ, zero, suc, List, [], ◌++◌, Option, Some, None, length, take, drop, refl, sym, ap, subst, inl, arith, lit<, append-nil, append_assoc, length-append}
 use Rattle.std.proofs.lemmas.List.{length-take-le}
 use Rattle.std.proofs.Math.Seq.{drop-append-add}
-use Rattle.otn_ports.proofs.GivenLaws.{gave_twice}
-use Rattle.otn_ports.proofs.TakenTwice.{after-after}
-use Rattle.otn_ports.specs.Bytes.{after}
-use Rattle.otn_ports.specs.Given.{Gave}
-use Rattle.otn_ports.specs.Reads.{Takes}
-use Rattle.otn_ports.specs.Views.{Live, Dead, InView}
+use Rattle.port_base.proofs.GivenLaws.{gave_twice}
+use Rattle.port_base.proofs.TakenTwice.{after-after}
+use Rattle.port_base.specs.Bytes.{after}
+use Rattle.port_base.specs.Given.{Gave}
+use Rattle.port_base.specs.Reads.{Takes}
+use Rattle.port_base.specs.Views.{Live, Dead, InView}
 use Rattle.line_side.specs.LineFile.{frame_at}
 use Rattle.command_base.specs.Gains.{GainsPart}
 use Rattle.line_commands.specs.SlotReport.{slot_bytes, slot_bytes_until, StoppedInFrame}
 use Rattle.line_commands.specs.SlotRuns.{SlotEnded}
 use Rattle.line_commands.specs.Steps.SlotRuns.{SlotStep, FramesStep, progress_of}
 use Rattle.line_commands.specs.declared.slot.Progress.TheVariants.{Frames, Stopped}
-use Rattle.otn_ports.specs.declared.ended.Ended.{Ended}
-use Rattle.otn_ports.specs.declared.ended.Ended.TheVariants.{Done, Unfinished, Cut, ReportFault, Memory}
+use Rattle.port_base.specs.declared.ended.Ended.{Ended}
+use Rattle.port_base.specs.declared.ended.Ended.TheVariants.{Done, Unfinished, Cut, ReportFault, Memory}
 use Rattle.line_commands.proofs.LineFrames.{until-append, until-further, until-more, until-none}
 use Rattle.line_commands.proofs.SlotBatches.{bytes-length, until-part, until-front, frame_at-front}
 use Rattle.line_commands.proofs.SlotLoop.{SoFar, ends_with, after-none, stopped_in}

@@ -1,13 +1,13 @@
 -- The loop of `slot` over the frames of a line.
 use Rattle.std.proofs.Common.{◌≡◌, ◌≢◌, ◌<◌, ◌≤◌, ◌+◌, ◌*◌, ◌∙◌, ℕ, List, [], ◌++◌, Option, Some, None, length, take, refl, sym, ap, subst, inl, inr, arith, append-nil, length-append, lit≤}
 use Rattle.std.proofs.Math.Seq.{take-append-add}
-use Rattle.otn_ports.proofs.GivenLaws.{gave_none, gave_twice}
-use Rattle.otn_ports.proofs.TakenTwice.{after-after}
-use Rattle.otn_ports.specs.Bytes.{after}
-use Rattle.otn_ports.specs.Given.{Gave}
-use Rattle.otn_ports.specs.Views.{Dead, InView}
+use Rattle.port_base.proofs.GivenLaws.{gave_none, gave_twice}
+use Rattle.port_base.proofs.TakenTwice.{after-after}
+use Rattle.port_base.specs.Bytes.{after}
+use Rattle.port_base.specs.Given.{Gave}
+use Rattle.port_base.specs.Views.{Dead, InView}
 use Rattle.line_side.specs.LineFile.{frame_at}
-use Rattle.otn_ports.specs.PortViews.{SinkView}
+use Rattle.port_base.specs.PortViews.{SinkView}
 use Rattle.command_base.specs.Ends.{ReportAfter}
 use Rattle.line_commands.specs.SlotReport.{slot_bytes, slot_bytes_until, slot_report, whole_frames_used}
 use Rattle.line_commands.specs.SlotRuns.{SlotEnded}
@@ -15,8 +15,8 @@ use Rattle.line_commands.specs.Steps.SlotRuns.{SlotStep}
 use Rattle.line_commands.specs.SlotReport.{StoppedInFrame}
 use Rattle.command_base.specs.Gains.{GainsPart}
 use Rattle.command_base.specs.Beyond.{ByteRun}
-use Rattle.otn_ports.specs.declared.ended.Ended.{Ended}
-use Rattle.otn_ports.specs.declared.ended.Ended.TheVariants.{Done, Unfinished, Cut, ReportFault, Memory}
+use Rattle.port_base.specs.declared.ended.Ended.{Ended}
+use Rattle.port_base.specs.declared.ended.Ended.TheVariants.{Done, Unfinished, Cut, ReportFault, Memory}
 use Rattle.line_commands.proofs.LineFrames.{last_frame, slot_report-at, slot_report-whole, until-append, until-further, until-more, until-none, used-at}
 
 -- after i whole frames

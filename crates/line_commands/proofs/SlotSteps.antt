@@ -1,11 +1,11 @@
 -- How the steps of `slot` add up.
 use Rattle.std.proofs.Common.{◌≡◌, ◌≢◌, ℕ, suc, List, Option, length, refl}
-use Rattle.otn_ports.specs.Given.{Gave}
-use Rattle.otn_ports.specs.Reads.{idle_reading}
-use Rattle.otn_ports.specs.Views.{State, Empty, Live, Dead, InView}
-use Rattle.otn_ports.specs.declared.in_place.Reading.TheVariants.{Full, End}
-use Rattle.otn_ports.specs.declared.drain.Written.{Written}
-use Rattle.otn_ports.specs.declared.drain.Written.TheVariants.{Whole, Lost}
+use Rattle.port_base.specs.Given.{Gave}
+use Rattle.port_base.specs.Reads.{idle_reading}
+use Rattle.port_base.specs.Views.{State, Empty, Live, Dead, InView}
+use Rattle.port_base.specs.declared.in_place.Reading.TheVariants.{Full, End}
+use Rattle.port_base.specs.declared.drain.Written.{Written}
+use Rattle.port_base.specs.declared.drain.Written.TheVariants.{Whole, Lost}
 use Rattle.command_base.specs.Steps.Ends.{step_of}
 use Rattle.line_commands.specs.Steps.SlotRuns.{SlotStep, SlotWritten}
 

@@ -1,11 +1,11 @@
 -- The answers of `slot`, and what it wrote, by what its line gave.
 use Rattle.std.proofs.Common.{◌≡◌, ◌≢◌, ◌<◌, ◌≤◌, ◌+◌, ◌-◌, ◌*◌, ◌^◌, ◌∙◌, ◌⊎◌, ◌↔◌, ℕ, Bool, zero, suc, List, [], ◌++◌, Option, Some, IfSome, length, min, take, refl, sym, ap, subst, inl, inr, arith, append-nil, append_assoc, length-append}
 use Rattle.std.proofs.lemmas.List.{take-append-le}
-use Rattle.otn_ports.proofs.GivenLaws.{Beyond, given_of_gave}
-use Rattle.otn_ports.specs.Bytes.{after, raised}
-use Rattle.otn_ports.specs.Given.{HadToGive}
-use Rattle.otn_ports.specs.Reads.{HasEnded}
-use Rattle.otn_ports.specs.Views.{State, Empty, Live, Dead, InView}
+use Rattle.port_base.proofs.GivenLaws.{Beyond, given_of_gave}
+use Rattle.port_base.specs.Bytes.{after, raised}
+use Rattle.port_base.specs.Given.{HadToGive}
+use Rattle.port_base.specs.Reads.{HasEnded}
+use Rattle.port_base.specs.Views.{State, Empty, Live, Dead, InView}
 use Rattle.line_commands.specs.LineAnswers.{LineAnswers, SlotRan}
 use Rattle.command_base.specs.Device.{Device, line_zero}
 use Rattle.command_base.specs.Ends.{line_status}
@@ -16,8 +16,8 @@ use Rattle.line_commands.specs.SlotReport.{slot_bytes, slot_bytes_until, slot_re
 use Rattle.line_commands.specs.SlotRuns.{SlotEnded}
 use Rattle.line_commands.specs.SlotReport.{StoppedInFrame}
 use Rattle.command_base.specs.Gains.{GainsPart}
-use Rattle.otn_ports.specs.declared.ended.Ended.{Ended}
-use Rattle.otn_ports.specs.declared.ended.Ended.TheVariants.{Done, Unfinished, Cut, ReportFault, Memory}
+use Rattle.port_base.specs.declared.ended.Ended.{Ended}
+use Rattle.port_base.specs.declared.ended.Ended.TheVariants.{Done, Unfinished, Cut, ReportFault, Memory}
 use Rattle.command_base.specs.declared.status.Status.{Status}
 use Rattle.command_base.specs.declared.status.Status.TheVariants as status
 use Rattle.command_base.proofs.Lives.{is_dead, is_report_fault, still_alive}

@@ -1,9 +1,9 @@
 -- Believed: what the commands over line input 0 answer for, over all that they are handed: as it was, and as it is.
 use Rattle.std.specs.Prelude.{◌≡◌, ◌≢◌, ◌<◌, ◌≤◌, ◌%◌, ◌⊎◌, ◌↔◌, ℕ, Bool, false, List, ◌++◌, length}
 use Rattle.otn_base.specs.declared.limits.TheConstants.{LINE_FRAME_BYTES}
-use Rattle.otn_ports.specs.Given.{Gave, DiedUnended}
-use Rattle.otn_ports.specs.Reads.{HasEnded}
-use Rattle.otn_ports.specs.Views.{Live, Dead}
+use Rattle.port_base.specs.Given.{Gave, DiedUnended}
+use Rattle.port_base.specs.Reads.{HasEnded}
+use Rattle.port_base.specs.Views.{Live, Dead}
 use Rattle.tributary_model.specs.Places.{Tributary}
 use Rattle.command_base.specs.Device.{Device, OnlyLine, line_zero}
 use Rattle.command_base.specs.AnswerWords.{CountsBy, Reports, IsLineAnswer}

@@ -1,6 +1,6 @@
 -- API: what holds of `slot` and `pull`, by all bytes that line input 0 had to give, where it tells them.
 use Rattle.std.specs.Prelude.{◌≢◌, ◌<◌, ◌-◌, ◌^◌, List, ℕ}
-use Rattle.otn_ports.specs.Given.{HadToGive}
+use Rattle.port_base.specs.Given.{HadToGive}
 use Rattle.command_base.specs.Device.{Device, line_zero}
 use Rattle.command_base.specs.declared.status.Status.{Status}
 use Rattle.command_base.specs.declared.status.Status.TheVariants.{ReportFault}

@@ -6,7 +6,7 @@ use Rattle.multiframe.specs.LineTurns.{line_state, wanted, has_ended}
 use Rattle.otn_base.specs.declared.limits.TheConstants.{LINE_FRAME_BYTES, MOST_TURNS, OTU2_SLOTS}
 use Rattle.tributary_model.specs.Places.{Tributary}
 use Rattle.device_model.specs.LineViews.{emitted_at}
-use Rattle.otn_ports.specs.Bytes.{after}
+use Rattle.port_base.specs.Bytes.{after}
 use Rattle.command_base.specs.Gains.{GainsPart}
 
 -- the tributary of a port, from 1, and of slots of an OTU2 line

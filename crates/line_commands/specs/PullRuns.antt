@@ -1,15 +1,15 @@
 -- API: how `pull` goes: what it took of its line, what its report gained, and why it ended.
 use Rattle.std.specs.Prelude.{◌≡◌, ◌≢◌, ◌<◌, ◌%◌, ℕ, Bool, false, List, ◌++◌, Option, length}
 use Rattle.otn_base.specs.declared.limits.TheConstants.{LINE_FRAME_BYTES}
-use Rattle.otn_ports.specs.Given.{Gave, DiedUnended}
-use Rattle.otn_ports.specs.Reads.{HasEnded}
-use Rattle.otn_ports.specs.Views.{InView, Live, Dead}
+use Rattle.port_base.specs.Given.{Gave, DiedUnended}
+use Rattle.port_base.specs.Reads.{HasEnded}
+use Rattle.port_base.specs.Views.{InView, Live, Dead}
 use Rattle.tributary_model.specs.Places.{Tributary}
 use Rattle.command_base.specs.Ends.{line_status}
 use Rattle.line_commands.specs.PullReport.{pull_report, LeavesBytes, bytes_read, MayFollow, StoppedInTurn}
 use Rattle.command_base.specs.AnswerWords.{Reports}
-use Rattle.otn_ports.specs.declared.ended.Ended.{Ended}
-use Rattle.otn_ports.specs.declared.ended.Ended.TheVariants.{Done, Unfinished, Cut, ReportFault, Memory}
+use Rattle.port_base.specs.declared.ended.Ended.{Ended}
+use Rattle.port_base.specs.declared.ended.Ended.TheVariants.{Done, Unfinished, Cut, ReportFault, Memory}
 
 -- what an answer says of the bytes taken, and of all that may stand behind them
 abbrev pub PullEnds : Ended → (more : Bool) → (read : List ℕ) → (now : InView) → Type 0

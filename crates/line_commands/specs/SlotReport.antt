@@ -3,7 +3,7 @@ use Rattle.std.specs.Prelude.{◌≡◌, ℕ, ◌+◌, ◌*◌, ◌/◌, ◌<◌
 use Rattle.std.specs.List.{flat_map, range_with_len}
 use Rattle.line_side.specs.LineFile.{frame_at}
 use Rattle.odtu_columns.specs.Columns.{slot_row_of}
-use Rattle.otn_ports.specs.Bytes.{after}
+use Rattle.port_base.specs.Bytes.{after}
 use Rattle.command_base.specs.Gains.{GainsPart}
 use Rattle.otn_base.specs.declared.limits.TheConstants.{LINE_FRAME_BYTES, MOST_FRAMES, OTU2_SLOTS, ROWS}
 

@@ -1,13 +1,13 @@
 -- API: how `slot` goes: what it took of its line, what its report gained, and why it ended.
 use Rattle.std.specs.Prelude.{◌≡◌, ◌≢◌, ◌<◌, ◌≤◌, ◌⊎◌, ◌*◌, ℕ, List, Option, length}
 use Rattle.otn_base.specs.declared.limits.TheConstants.{LINE_FRAME_BYTES}
-use Rattle.otn_ports.specs.Bytes.{after}
-use Rattle.otn_ports.specs.Given.{Gave, DiedUnended}
-use Rattle.otn_ports.specs.Reads.{HasEnded}
-use Rattle.otn_ports.specs.Views.{InView, Dead}
+use Rattle.port_base.specs.Bytes.{after}
+use Rattle.port_base.specs.Given.{Gave, DiedUnended}
+use Rattle.port_base.specs.Reads.{HasEnded}
+use Rattle.port_base.specs.Views.{InView, Dead}
 use Rattle.line_commands.specs.SlotReport.{slot_report, whole_frames_used, most_read_of_line, StoppedInFrame}
-use Rattle.otn_ports.specs.declared.ended.Ended.{Ended}
-use Rattle.otn_ports.specs.declared.ended.Ended.TheVariants.{Done, Unfinished, Cut, ReportFault, Memory}
+use Rattle.port_base.specs.declared.ended.Ended.{Ended}
+use Rattle.port_base.specs.declared.ended.Ended.TheVariants.{Done, Unfinished, Cut, ReportFault, Memory}
 
 -- the answer of a command that took these bytes of its line, of the most frames and one byte more at most
 abbrev pub SlotEnds : Ended → (slot : ℕ) → (read : List ℕ) → (first now : InView) → (old new : Option (List ℕ))

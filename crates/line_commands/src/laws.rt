@@ -2,7 +2,7 @@
 ghost use Rattle.std.specs.Prelude.{◌≡◌, ◌≢◌, ◌<◌, ◌-◌, ◌%◌, ◌^◌, ◌↔◌, ℕ, List, length, min};
 ghost use Rattle.otn_base.specs.SlotList.{IsSlotList};
 ghost use Rattle.otn_base.specs.declared.limits.TheConstants.{LINE_FRAME_BYTES, OTU2_SLOTS};
-ghost use Rattle.otn_ports.specs.Views.{Dead};
+ghost use Rattle.port_base.specs.Views.{Dead};
 ghost use Rattle.tributary_model.specs.Places.{Tributary};
 ghost use Rattle.device_model.specs.Agreements.{AgreeOnTributary};
 ghost use Rattle.command_base.specs.AnswerWords.{Reports};

@@ -1,10 +1,10 @@
 // The command `pull`: what the sink of a tributary on a line emits, turn by turn.
 ghost use Rattle.std.specs.Prelude.{◌≡◌, ◌≢◌, ◌+◌, ◌*◌, ◌≤◌, ℕ, List, [], IfOk, Some, length, vec_len};
-ghost use Rattle.otn_ports.specs.InPlace.{in_view};
-ghost use Rattle.otn_ports.specs.Views.{InView};
+ghost use Rattle.port_base.specs.InPlace.{in_view};
+ghost use Rattle.port_base.specs.Views.{InView};
 ghost use Rattle.tributary_model.specs.Places.{Tributary};
 ghost use Rattle.otn_base.specs.declared.limits.TheConstants.{GROUPS, OTU2_SLOTS};
-ghost use Rattle.otn_ports.specs.PortViews.{sink_view};
+ghost use Rattle.port_base.specs.PortViews.{sink_view};
 ghost use Rattle.command_base.specs.Ends.{ReportAfter};
 ghost use Rattle.line_commands.specs.PullReport.{tributary};
 ghost use Rattle.tributary_line.specs.TapTurn.{TapStands, IsBetweenTurns};
@@ -13,7 +13,7 @@ use command_base::ask_for_more;
 use line_side::UncountedLineIn;
 use otn_base::limits::{GROUPS, MOST_TURNS};
 use otn_base::{LineKind, Slots};
-use otn_ports::{Ended, InPlaceOf, Sink, Source, Written, write_whole};
+use port_base::{Ended, InPlaceOf, Sink, Source, Written, write_whole};
 use std::alloc::{AllocError, Global};
 use tributary_line::Tap;
 

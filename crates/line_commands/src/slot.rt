@@ -1,12 +1,12 @@
 // The command `slot`: the payload bytes of one tributary slot of each whole frame of a line.
 ghost use Rattle.std.specs.Prelude.{◌≡◌, ◌≢◌, ◌*◌, ◌/◌, ◌<◌, ◌≤◌, ℕ, Some, length};
 ghost use Rattle.otn_base.specs.declared.limits.TheConstants.{GROUPS, LINE_FRAME_BYTES, OTU2_SLOTS};
-ghost use Rattle.otn_ports.specs.InPlace.{in_view};
-ghost use Rattle.otn_ports.specs.Views.{Dead};
-ghost use Rattle.otn_ports.specs.PortViews.{sink_view};
+ghost use Rattle.port_base.specs.InPlace.{in_view};
+ghost use Rattle.port_base.specs.Views.{Dead};
+ghost use Rattle.port_base.specs.PortViews.{sink_view};
 ghost use Rattle.command_base.specs.Ends.{ReportAfter};
 ghost use Rattle.command_base.specs.Steps.Ends.{step_of};
-ghost use Rattle.otn_ports.specs.AtHand.{place_at_hand};
+ghost use Rattle.port_base.specs.AtHand.{place_at_hand};
 ghost use Rattle.line_commands.specs.SlotReport.{slot_bytes_until};
 ghost use Rattle.line_commands.specs.SlotRuns.{SlotEnded};
 ghost use Rattle.line_commands.specs.Steps.SlotRuns.{FramesStep, SlotStep, SlotWritten, progress_of, end_of};
@@ -16,7 +16,7 @@ use crate::frames_at_hand::{FRAMES_AT_A_TIME, SLOT_BYTES, gather_frames, gather_
 use command_base::ask_for_more;
 use frame_geometry::Frame;
 use otn_base::limits::{LINE_COLUMNS, LINE_FRAME_BYTES, MOST_FRAMES};
-use otn_ports::{Ended, InPlaceOf, Reading, Sink, Source, Written, write_counted, write_whole};
+use port_base::{Ended, InPlaceOf, Reading, Sink, Source, Written, write_counted, write_whole};
 use std::alloc::Global;
 
 // What a step came to: so many frames are written, or the command ends.

@@ -3,7 +3,7 @@
 use Rattle.std.proofs.Common.{◌≡◌, ◌≤◌, ◌+◌, ◌-◌, ◌/◌, ◌%◌, ℕ, zero, suc, Bool, true, false, cond, ltb, leb, List, Option, Some, None, length, take, drop, arith, refl, sym, ap, ◌∙◌, subst}
 use Rattle.std.specs.Prelude.{IfSome, ◌↔◌, ⊤}
 use Rattle.std.proofs.lemmas.Bool.{ltb-false, le-ltb}
-use Rattle.otn_ports.specs.Views.{InView}
+use Rattle.port_base.specs.Views.{InView}
 use Rattle.multiframe.specs.LineTurns.{Lock, LineState, Hunting, Locked, Ended, CutShort, Lost, Whole, lock_of, outcome_of, after_outcome, after_hunt, after_turn, line_state, wrong_count}
 use Rattle.multiframe.specs.Alignment.{Alignment, taken_of}
 use Rattle.multiframe.specs.TurnPieces.{AlignedIn, aligned_by, ended_in, in_hand, hand_at}

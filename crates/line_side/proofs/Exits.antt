@@ -3,9 +3,9 @@
 use Rattle.std.proofs.Common.{◌≡◌, ◌≢◌, ◌*◌, ◌⊎◌, ℕ, Bool, true, false, cond, ltb, List, [], Option, Some, length, arith, refl, sym, ap, ◌∙◌, inl, inr, subst}
 use Rattle.std.specs.Prelude.{IfSome}
 use Rattle.std.proofs.lemmas.Bool.{lt-ltb, le-ltb}
-use Rattle.otn_ports.specs.Views.{State, Empty, Live, Dead}
-use Rattle.otn_ports.specs.Reads.{HasEnded}
-use Rattle.otn_ports.proofs.GivenLaws.{given_of_gave}
+use Rattle.port_base.specs.Views.{State, Empty, Live, Dead}
+use Rattle.port_base.specs.Reads.{HasEnded}
+use Rattle.port_base.proofs.GivenLaws.{given_of_gave}
 use Rattle.multiframe.specs.LineTurns.{wanted_so_far, took}
 use Rattle.line_side.specs.LineForm.{size_of, through_mask}
 use Rattle.line_side.specs.LineFile.{mfas_of}

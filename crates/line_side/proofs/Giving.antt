@@ -1,7 +1,7 @@
 -- What a line may turn out to have, from one step of its reader to the next.
 use Rattle.std.proofs.Common.{◌≡◌, ◌≢◌, ℕ, List, [], ◌++◌, refl, sym, ap, ◌∙◌, append_assoc, subst}
-use Rattle.otn_ports.specs.Views.{Live, Dead, Empty, InView}
-use Rattle.otn_ports.proofs.GivenLaws.{gave_none, gave_twice}
+use Rattle.port_base.specs.Views.{Live, Dead, Empty, InView}
+use Rattle.port_base.proofs.GivenLaws.{gave_none, gave_twice}
 use Rattle.line_side.specs.declared.ending.Ending.{Ending}
 use Rattle.line_side.specs.LineForm.{through_mask}
 use Rattle.line_side.specs.MayBe.{MayBe}

@@ -4,10 +4,10 @@ use Rattle.std.specs.List.{concat}
 use Rattle.std.proofs.lemmas.List.{length-set, get_or-set_same, get_or-set_other}
 use Rattle.std.proofs.Math.Dec.{eqb}
 use Rattle.std.proofs.lemmas.Bool.Decides.{eqb_tells}
-use Rattle.otn_ports.specs.Views.{State, Empty, Live, Dead, OutView}
-use Rattle.otn_ports.specs.Given.{Gained}
-use Rattle.otn_ports.specs.Sent.{IsSent}
-use Rattle.otn_ports.proofs.GivenLaws.{gained_none, gained_twice}
+use Rattle.port_base.specs.Views.{State, Empty, Live, Dead, OutView}
+use Rattle.port_base.specs.Given.{Gained}
+use Rattle.port_base.specs.Sent.{IsSent}
+use Rattle.port_base.proofs.GivenLaws.{gained_none, gained_twice}
 use Rattle.line_side.proofs.Giving.{dead_not_live, empty_not_live}
 use Rattle.otn_base.specs.Counts.{saturated}
 use Rattle.std.specs.Prelude.{slice_set, ◌&&◌}

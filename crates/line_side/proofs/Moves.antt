@@ -2,7 +2,7 @@
 use Rattle.std.proofs.Common.{◌≡◌, ◌<◌, ◌+◌, ◌-◌, ◌%◌, ◌^◌, min, max, ℕ, Bool, true, false, eqb, ltb, List, ◌++◌, Option, Some, None, length, arith, refl, sym, ap, ◌∙◌, append_assoc, length-append}
 use Rattle.std.specs.Prelude.{slice_index, option_map, ◌&&◌, IsSome, IsSomeAnd}
 use Rattle.std.proofs.lemmas.Bool.{ltb-true, lt-ltb}
-use Rattle.otn_ports.specs.Views.{InView}
+use Rattle.port_base.specs.Views.{InView}
 use Rattle.multiframe.specs.LineTurns.{one_if, looked_ahead, is_start}
 use Rattle.multiframe.specs.Alignment.{Alignment, aligned_at, with_frame}
 use Rattle.line_side.specs.LineFile.{frame_at, frame_mfas, mfas_of}

@@ -1,6 +1,6 @@
 -- The numbers of an input line are those of its bytes.
 use Rattle.std.proofs.Common.{◌≡◌, ℕ, List, ap, ◌∙◌}
-use Rattle.otn_ports.specs.Views.{InView}
+use Rattle.port_base.specs.Views.{InView}
 use Rattle.frame_geometry.specs.declared.overhead.TheConstants.{SECTION_ROW, SM_BIP8_COLUMN, PM_ROW, PM_BIP8_COLUMN}
 use Rattle.otn_base.specs.declared.limits.TheConstants.{LINE_COLUMNS}
 use Rattle.frame_overhead.specs.TwoBefore.{wrong_parities}

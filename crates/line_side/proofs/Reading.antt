@@ -1,18 +1,18 @@
 -- What a read of a frame says.
 use Rattle.std.proofs.Common.{◌≡◌, ◌≢◌, ◌<◌, ◌≤◌, inl, ℕ, false, List, [], length, take, arith, refl, sym, ap, ◌∙◌}
 use Rattle.std.proofs.lemmas.List.{length-take-le}
-use Rattle.otn_ports.specs.Views.{State, Empty, Live, Dead, InView}
-use Rattle.otn_ports.specs.AtHand.{place_at_hand}
-use Rattle.otn_ports.specs.Reads.{Reads, Takes, HasEnded, state_after}
-use Rattle.otn_ports.specs.Given.{Gave}
-use Rattle.otn_ports.proofs.GivenLaws.{GaveBy, read_gave}
-use Rattle.otn_ports.specs.declared.in_place.Reading.{Reading}
-use Rattle.otn_ports.specs.declared.in_place.Reading.TheVariants.{Full, End, Lost}
-use Rattle.otn_ports.specs.declared.sealed.Sealed.{Sealed}
-use Rattle.otn_ports.specs.InPlace.{in_view}
-use Rattle.otn_ports.specs.declared.source.Source.{Ghosts}
-use Rattle.otn_ports.specs.declared.in_place.InPlaceOf.{InPlaceOf}
-use Rattle.otn_ports.specs.declared.in_place.InPlaceOf.TheVariants as place
+use Rattle.port_base.specs.Views.{State, Empty, Live, Dead, InView}
+use Rattle.port_base.specs.AtHand.{place_at_hand}
+use Rattle.port_base.specs.Reads.{Reads, Takes, HasEnded, state_after}
+use Rattle.port_base.specs.Given.{Gave}
+use Rattle.port_base.proofs.GivenLaws.{GaveBy, read_gave}
+use Rattle.port_base.specs.declared.in_place.Reading.{Reading}
+use Rattle.port_base.specs.declared.in_place.Reading.TheVariants.{Full, End, Lost}
+use Rattle.port_base.specs.declared.sealed.Sealed.{Sealed}
+use Rattle.port_base.specs.InPlace.{in_view}
+use Rattle.port_base.specs.declared.source.Source.{Ghosts}
+use Rattle.port_base.specs.declared.in_place.InPlaceOf.{InPlaceOf}
+use Rattle.port_base.specs.declared.in_place.InPlaceOf.TheVariants as place
 use Rattle.line_side.specs.Steps.Reader.{FrameRead}
 use Rattle.line_side.proofs.Giving.{dead_not_live, empty_not_live}
 

@@ -5,9 +5,9 @@ use Rattle.std.proofs.lemmas.Bool.Decides.{nat_tests}
 use Rattle.otn_base.specs.LineSlots.{slots_of}
 use Rattle.otn_base.specs.declared.line_kind.LineKind.{LineKind}
 use Rattle.otn_base.specs.declared.line_kind.LineKind.TheVariants.{Otu2, Otu3}
-use Rattle.otn_ports.specs.Views.{InView}
-use Rattle.otn_ports.specs.Given.{Gave, DiedUnended}
-use Rattle.otn_ports.proofs.GivenLaws.{gave_none, gave_twice}
+use Rattle.port_base.specs.Views.{InView}
+use Rattle.port_base.specs.Given.{Gave, DiedUnended}
+use Rattle.port_base.proofs.GivenLaws.{gave_none, gave_twice}
 use Rattle.multiframe.specs.LineTurns.{LineState, lock_of, line_state, multiframe}
 use Rattle.multiframe.specs.Alignment.{Alignment}
 use Rattle.line_side.specs.LineForm.{LineForm, size_of}

@@ -1,12 +1,12 @@
 -- The frames of an output line that wait, and those that leave.
 use Rattle.std.proofs.Common.{◌≡◌, ◌≢◌, ◌/◌, ◌≤◌, ℕ, List, [], length, take, drop, refl, sym, ap, ◌∙◌, arith}
 use Rattle.std.proofs.lemmas.List.{drop_all, length-take-le, take-append-drop}
-use Rattle.otn_ports.specs.Given.{Gained}
-use Rattle.otn_ports.specs.Views.{State, Empty, Live, Dead, OutView}
-use Rattle.otn_ports.specs.Writes.{IsWriting, state_after_write}
-use Rattle.otn_ports.specs.declared.drain.Written.{Written}
-use Rattle.otn_ports.specs.declared.drain.Written.TheVariants as written
-use Rattle.otn_ports.proofs.GivenLaws.{gained_none}
+use Rattle.port_base.specs.Given.{Gained}
+use Rattle.port_base.specs.Views.{State, Empty, Live, Dead, OutView}
+use Rattle.port_base.specs.Writes.{IsWriting, state_after_write}
+use Rattle.port_base.specs.declared.drain.Written.{Written}
+use Rattle.port_base.specs.declared.drain.Written.TheVariants as written
+use Rattle.port_base.proofs.GivenLaws.{gained_none}
 use Rattle.line_side.proofs.Giving.{dead_not_live}
 use Rattle.line_side.specs.LineOutput.{counted_now}
 use Rattle.line_side.specs.Steps.LineOutput.{Leaves}

@@ -1,7 +1,7 @@
 -- API: what is proved of a line's bytes.
 use Rattle.std.specs.Prelude.{◌≡◌, ◌<◌, ◌≤◌, ◌+◌, ◌*◌, ℕ, Bool, List, [], length, take, slice_get, slice_index, bit_xor, Some}
-use Rattle.otn_ports.specs.Given.{HadToGive}
-use Rattle.otn_ports.specs.Views.{InView}
+use Rattle.port_base.specs.Given.{HadToGive}
+use Rattle.port_base.specs.Views.{InView}
 use Rattle.multiframe.specs.LineTurns.{wanted_so_far, took}
 use Rattle.otn_base.specs.declared.limits.TheConstants.{LINE_COLUMNS, LINE_FRAME_BYTES}
 use Rattle.line_side.specs.LineForm.{LineForm, size_of, through_mask}

@@ -3,9 +3,9 @@ use Rattle.std.specs.Prelude.{◌≡◌, ℕ, ◌+◌, ◌*◌, ◌/◌, ◌%◌
 use Rattle.std.specs.List.{concat}
 use Rattle.otn_base.specs.TrailTrace.{trail_trace}
 use Rattle.otn_base.specs.declared.limits.TheConstants.{LINE_COLUMNS, LINE_FRAME_BYTES}
-use Rattle.otn_ports.specs.Given.{Gained}
-use Rattle.otn_ports.specs.Sent.{IsSent}
-use Rattle.otn_ports.specs.Views.{State, Empty, OutView}
+use Rattle.port_base.specs.Given.{Gained}
+use Rattle.port_base.specs.Sent.{IsSent}
+use Rattle.port_base.specs.Views.{State, Empty, OutView}
 use Rattle.frame_geometry.specs.declared.overhead.TheConstants.{PSI_ROW, PSI_COLUMN}
 use Rattle.frame_overhead.specs.Runs.{IsPlace, byte_of}
 use Rattle.frame_overhead.specs.TwoBefore.{Kept, HasSent, parity_due, or_zero}

@@ -1,9 +1,9 @@
 -- Believed: where an input line stands in its turns.
 use Rattle.std.specs.Prelude.{◌≡◌, ◌≢◌, ◌↔◌, ◌+◌, ◌≤◌, ℕ, Bool, true, false, List, ◌++◌, length, Option, Some, None, IfSome, is_some}
 use Rattle.otn_base.specs.declared.line_kind.LineKind.{LineKind}
-use Rattle.otn_ports.specs.Views.{InView, Live}
-use Rattle.otn_ports.specs.Given.{Gave}
-use Rattle.otn_ports.specs.Reads.{HasEnded}
+use Rattle.port_base.specs.Views.{InView, Live}
+use Rattle.port_base.specs.Given.{Gave}
+use Rattle.port_base.specs.Reads.{HasEnded}
 use Rattle.multiframe.specs.LineTurns.{Ended, Lock, line_state, multiframe, used_in, wanted_so_far, lost_count}
 use Rattle.multiframe.specs.Alignment.{Alignment}
 use Rattle.line_side.specs.LineForm.{LineForm, size_of}

@@ -2,7 +2,7 @@
 use Rattle.std.specs.Prelude.{◌≡◌, ◌≢◌, ◌<◌, ◌≤◌, ◌+◌, ◌*◌, ◌%◌, ℕ, Bool, List, length, Option, Some, None, IfSome}
 use Rattle.otn_base.specs.Counts.{saturated}
 use Rattle.otn_base.specs.declared.limits.TheConstants.{LINE_FRAME_BYTES}
-use Rattle.otn_ports.specs.Views.{InView, Dead}
+use Rattle.port_base.specs.Views.{InView, Dead}
 use Rattle.line_side.specs.LineFile.{frame_at, first_frames, whole_frames}
 use Rattle.line_side.specs.Counted.{Counted, HasCounted}
 use Rattle.line_side.specs.declared.ending.Ending.{Ending}

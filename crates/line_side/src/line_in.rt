@@ -2,9 +2,9 @@
 ghost use Rattle.std.specs.Prelude.{◌≡◌, ◌≢◌, ◌↔◌, ◌+◌, ◌-◌, ◌%◌, ◌<◌, ◌≤◌, ℕ, List, [], true, false, None, IfOk, IfSome, IsSome, IsSomeAnd, IsTrue, length};
 ghost use Rattle.std.specs.Option.{ForSome};
 ghost use Rattle.otn_base.specs.LineSlots.{slots_of};
-ghost use Rattle.otn_ports.specs.Given.{Gave};
-ghost use Rattle.otn_ports.specs.InPlace.{in_view};
-ghost use Rattle.otn_ports.specs.Views.{InView};
+ghost use Rattle.port_base.specs.Given.{Gave};
+ghost use Rattle.port_base.specs.InPlace.{in_view};
+ghost use Rattle.port_base.specs.Views.{InView};
 
 use crate::LineCounts;
 use crate::reader::LineReader;
@@ -13,7 +13,7 @@ use frame_geometry::Frame;
 use multiframe::Phase;
 use otn_base::limits::LINE_COLUMNS;
 use otn_base::{LineKind, Memory};
-use otn_ports::{InPlaceOf, Source};
+use port_base::{InPlaceOf, Source};
 use std::alloc::Global;
 use std::marker::Model;
 

@@ -2,8 +2,8 @@
 ghost use Rattle.std.specs.Prelude.{◌≡◌, ◌≢◌, ◌<◌, ◌++◌, ◌∷◌, ℕ, List, [], IfOk, length, slice_index};
 ghost use Rattle.otn_base.specs.declared.limits.TheConstants.{LINE_COLUMNS, LINE_FRAME_BYTES as FRAME_BYTES};
 ghost use Rattle.frame_geometry.specs.PayloadParity.{payload_parity_of};
-ghost use Rattle.otn_ports.specs.OutPlace.{out_view};
-ghost use Rattle.otn_ports.specs.Views.{OutView, Live};
+ghost use Rattle.port_base.specs.OutPlace.{out_view};
+ghost use Rattle.port_base.specs.Views.{OutView, Live};
 ghost use Rattle.line_side.specs.LineOutput.{CountsFrames};
 
 use crate::mask::LineMask;
@@ -15,8 +15,8 @@ use msi_table::{SlotMap, psi_byte};
 use odu_path::PathWriter;
 use otn_base::limits::{LINE_COLUMNS, LINE_FRAME_BYTES};
 use otn_base::{LineKind, Memory, Trace};
-use otn_ports::{OutPlaceOf, Sink};
 use otu_overhead::OtuWriter;
+use port_base::{OutPlaceOf, Sink};
 use std::alloc::Global;
 use std::marker::Model;
 
@@ -48,7 +48,7 @@ impl LineOut {
     ghost use Rattle.line_side.specs.contracts.line_out.LineOut.{the_row};
     ghost use Rattle.line_side.specs.FrameType.{line_frame};
     ghost use Rattle.line_side.specs.LineOutput.{LineMade, AsMade};
-    ghost use Rattle.otn_ports.specs.Given.{Gained};
+    ghost use Rattle.port_base.specs.Given.{Gained};
 
     /// Output line n, 0 to 3, of this kind, scrambled or plain, before its first frame.
     pub fn new(alloc: Global, line: u8, kind: LineKind, scrambled: bool) -> Result<LineOut, Memory>

@@ -1,7 +1,7 @@
 // The frames of a line, one after the other, with one frame looked ahead at.
 ghost use Rattle.std.specs.Prelude.{◌≡◌, ◌%◌, [], true, false, IfOk, IfSome, IsTrue, ◌↔◌, None};
 ghost use Rattle.otn_base.specs.LineSlots.{slots_of};
-ghost use Rattle.otn_ports.specs.InPlace.{in_view};
+ghost use Rattle.port_base.specs.InPlace.{in_view};
 
 use crate::checks::FrameChecks;
 use crate::ending::Ending;
@@ -11,7 +11,7 @@ use frame_geometry::overhead::{MFAS_COLUMN, SECTION_ROW};
 use multiframe::starts;
 use otn_base::limits::{LINE_COLUMNS, LINE_FRAME_BYTES};
 use otn_base::{LineKind, Memory};
-use otn_ports::{InPlaceOf, Reading, Source};
+use port_base::{InPlaceOf, Reading, Source};
 use std::alloc::Global;
 use std::marker::Model;
 use std::mem;

@@ -1,13 +1,13 @@
 // The frames of an output line that wait to be written.
 ghost use Rattle.std.specs.Prelude.{◌≡◌, ◌≢◌, ◌+◌, ◌≤◌, ◌++◌, [], ◌↔◌, IfOk, IsTrue, length, take};
 ghost use Rattle.otn_base.specs.declared.limits.TheConstants.{LINE_FRAME_BYTES as FRAME_BYTES};
-ghost use Rattle.otn_ports.specs.OutPlace.{out_view};
-ghost use Rattle.otn_ports.specs.Views.{Live, Empty};
+ghost use Rattle.port_base.specs.OutPlace.{out_view};
+ghost use Rattle.port_base.specs.Views.{Live, Empty};
 ghost use Rattle.line_side.specs.Steps.LineOutput.{Joins, Leaves};
 
 use otn_base::Memory;
 use otn_base::limits::LINE_FRAME_BYTES;
-use otn_ports::{OutPlaceOf, Sink};
+use port_base::{OutPlaceOf, Sink};
 use std::alloc::Global;
 use std::marker::Model;
 

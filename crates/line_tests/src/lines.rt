@@ -1,6 +1,6 @@
 // Whole lines, piece by piece.
 ghost use Rattle.std.specs.Prelude.{None};
-ghost use Rattle.otn_ports.specs.Memory.{memory_ended};
+ghost use Rattle.port_base.specs.Memory.{memory_ended};
 
 use line_side::{LineCounts, LineIn, LineOut};
 use msi_table::SlotMap;

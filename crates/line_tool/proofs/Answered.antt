@@ -1,27 +1,27 @@
 -- What the top call answers for, of a command over line input 0.
 use Rattle.std.proofs.Common.{◌≡◌, ◌≢◌, ◌∙◌, ℕ, List, [], Some, refl, sym, ap, subst, slice_get}
-use Rattle.otn_ports.proofs.BaysLaws.{only_line_in, line_in_seen, line_in_set}
-use Rattle.otn_ports.proofs.GivenLaws.{gave_none}
-use Rattle.otn_ports.proofs.PortLaws.{sink_later_none, source_later_none}
-use Rattle.otn_ports.specs.Given.{Gave}
-use Rattle.otn_ports.specs.InPlace.{in_view}
-use Rattle.otn_ports.specs.Racks.{bays_view, line_ins, with_line_in}
-use Rattle.otn_ports.specs.Views.{line_in_at}
-use Rattle.otn_ports.specs.declared.bays.Rack.{Rack}
-use Rattle.otn_ports.specs.declared.in_place.InPlaceOf.{InPlaceOf}
-use Rattle.otn_ports.specs.declared.sink.Sink as sink
-use Rattle.otn_ports.specs.declared.source.Source as source
+use Rattle.port_base.proofs.BaysLaws.{only_line_in, line_in_seen, line_in_set}
+use Rattle.port_base.proofs.GivenLaws.{gave_none}
+use Rattle.port_base.proofs.PortLaws.{sink_later_none, source_later_none}
+use Rattle.port_base.specs.Given.{Gave}
+use Rattle.port_base.specs.InPlace.{in_view}
+use Rattle.port_base.specs.Racks.{bays_view, line_ins, with_line_in}
+use Rattle.port_base.specs.Views.{line_in_at}
+use Rattle.port_base.specs.declared.bays.Rack.{Rack}
+use Rattle.port_base.specs.declared.in_place.InPlaceOf.{InPlaceOf}
+use Rattle.port_base.specs.declared.sink.Sink as sink
+use Rattle.port_base.specs.declared.source.Source as source
 use Rattle.tributary_model.specs.Places.{Tributary}
 use Rattle.line_tool.specs.Answers.{LineAnswers, PullRan, SlotRan}
-use Rattle.otn_ports.specs.PortViews.{SinkView, sink_view, source_view}
+use Rattle.port_base.specs.PortViews.{SinkView, sink_view, source_view}
 use Rattle.command_base.specs.Device.{Device, OnlyLine, Stays, device, line_zero}
 use Rattle.command_base.specs.Ends.{ReportAfter, line_status}
 use Rattle.check_command.specs.PlanCheck.{CheckRun}
 use Rattle.line_commands.specs.PullRuns.{PullEnded}
 use Rattle.command_base.specs.AnswerWords.{CountsBy, IsRefusal}
 use Rattle.line_commands.specs.SlotRuns.{SlotEnded}
-use Rattle.otn_ports.specs.declared.ended.Ended.{Ended}
-use Rattle.otn_ports.specs.declared.ended.Ended.TheVariants.{Done, Unfinished, Cut, ReportFault, Memory}
+use Rattle.port_base.specs.declared.ended.Ended.{Ended}
+use Rattle.port_base.specs.declared.ended.Ended.TheVariants.{Done, Unfinished, Cut, ReportFault, Memory}
 use Rattle.command_base.specs.declared.status.Status.{Status}
 use Rattle.command_base.specs.declared.status.Status.TheVariants as status
 use Rattle.line_commands.proofs.PullTable.{pull_ran}

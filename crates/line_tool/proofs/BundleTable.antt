@@ -1,9 +1,9 @@
 -- What the top call answers for, of `bundle`, and what follows of it.
 use Rattle.std.proofs.Common.{◌≡◌, ◌≢◌, ◌∙◌, ◌⊎◌, inl, inr, ◌<◌, ℕ, List, length, take, refl, sym, ap, subst}
-use Rattle.otn_ports.specs.PortViews.{SinkView, SinkLater}
-use Rattle.otn_ports.specs.Views.{BaysView, line_out_at}
-use Rattle.otn_ports.specs.declared.ended.Ended.{Ended}
-use Rattle.otn_ports.specs.declared.ended.Ended.TheVariants.{Done, Unfinished, Cut, ReportFault, Memory}
+use Rattle.port_base.specs.PortViews.{SinkView, SinkLater}
+use Rattle.port_base.specs.Views.{BaysView, line_out_at}
+use Rattle.port_base.specs.declared.ended.Ended.{Ended}
+use Rattle.port_base.specs.declared.ended.Ended.TheVariants.{Done, Unfinished, Cut, ReportFault, Memory}
 use Rattle.run_laws.proofs.GivenRuns.{follows}
 use Rattle.odu_client.specs.ClientInput.{ClientInput}
 use Rattle.bundle_command.specs.BundleLeft.{BundleRan, IsCut, LeftOf, MayBeInput, Tells, place_of}

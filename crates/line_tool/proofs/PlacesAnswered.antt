@@ -1,14 +1,14 @@
 -- What the top call answers for, of a command over some of the places.
 use Rattle.std.proofs.Common.{◌≡◌, ◌≢◌, ◌∙◌, refl, sym, ap, subst}
-use Rattle.otn_ports.proofs.PortLaws.{sink_later_none, source_later_none}
-use Rattle.otn_ports.specs.Bytes.{HasFailed}
-use Rattle.otn_ports.specs.PortViews.{SinkLater, SinkView, sink_view, source_view}
-use Rattle.otn_ports.specs.Views.{BaysView}
-use Rattle.otn_ports.specs.declared.bays.Rack.{Rack}
-use Rattle.otn_ports.specs.declared.ended.Ended.{Ended}
-use Rattle.otn_ports.specs.declared.ended.Ended.TheVariants.{Done, Unfinished, Cut, ReportFault, Memory}
-use Rattle.otn_ports.specs.declared.sink.Sink as sink
-use Rattle.otn_ports.specs.declared.source.Source as source
+use Rattle.port_base.proofs.PortLaws.{sink_later_none, source_later_none}
+use Rattle.port_base.specs.Bytes.{HasFailed}
+use Rattle.port_base.specs.PortViews.{SinkLater, SinkView, sink_view, source_view}
+use Rattle.port_base.specs.Views.{BaysView}
+use Rattle.port_base.specs.declared.bays.Rack.{Rack}
+use Rattle.port_base.specs.declared.ended.Ended.{Ended}
+use Rattle.port_base.specs.declared.ended.Ended.TheVariants.{Done, Unfinished, Cut, ReportFault, Memory}
+use Rattle.port_base.specs.declared.sink.Sink as sink
+use Rattle.port_base.specs.declared.source.Source as source
 use Rattle.line_tool.specs.Answers.{PlacesAnswers}
 use Rattle.command_base.specs.AnswerWords.{CountsBy, IsRefusal}
 use Rattle.command_base.specs.Device.{Device, Stays, device}

@@ -1,9 +1,9 @@
 -- What follows of what `protect` answers for.
 use Rattle.std.proofs.Common.{◌≡◌, ◌≢◌, ◌∙◌, ◌⊎◌, inl, inr, ◌<◌, ◌-◌, ◌^◌, ℕ, Bool, List, refl, sym, ap, subst, arith}
-use Rattle.otn_ports.specs.Given.{Lives}
-use Rattle.otn_ports.specs.Views.{State, Dead, InView}
-use Rattle.otn_ports.specs.declared.ended.Ended.{Ended}
-use Rattle.otn_ports.specs.declared.ended.Ended.TheVariants.{Done, Unfinished, Cut, ReportFault, Memory}
+use Rattle.port_base.specs.Given.{Lives}
+use Rattle.port_base.specs.Views.{State, Dead, InView}
+use Rattle.port_base.specs.declared.ended.Ended.{Ended}
+use Rattle.port_base.specs.declared.ended.Ended.TheVariants.{Done, Unfinished, Cut, ReportFault, Memory}
 use Rattle.tributary_model.specs.Places.{Tributary}
 use Rattle.device_model.specs.LineAsked.{InputLeft}
 use Rattle.run_laws.proofs.GivenRuns.{follows}

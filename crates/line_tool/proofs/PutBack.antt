@@ -4,9 +4,9 @@ use Rattle.std.proofs.Props.{props}
 use Rattle.std.specs.Vec.{with_item}
 use Rattle.std.specs.declared.alloc.Global.{Global}
 use Rattle.std.specs.declared.vec.Vec.{Vec}
-use Rattle.otn_ports.specs.Racks.{line_ins, with_line_in}
-use Rattle.otn_ports.specs.declared.bays.Rack.{Rack}
-use Rattle.otn_ports.specs.declared.in_place.InPlaceOf.{InPlaceOf}
+use Rattle.port_base.specs.Racks.{line_ins, with_line_in}
+use Rattle.port_base.specs.declared.bays.Rack.{Rack}
+use Rattle.port_base.specs.declared.in_place.InPlaceOf.{InPlaceOf}
 
 -- there is room for these in a list's memory
 abbrev Fits : {A : Type 0} → Vec A Global → List A → Type 0

@@ -1,6 +1,6 @@
 -- How the trial ends where no write of its report failed.
 use Rattle.std.proofs.Common.{◌≡◌, ◌⊎◌, ℕ, refl, inl, inr}
-use Rattle.otn_ports.specs.PortViews.{SinkView}
+use Rattle.port_base.specs.PortViews.{SinkView}
 use Rattle.command_base.specs.AnswerWords.{IsWell}
 use Rattle.trial_command.specs.TrialAnswers.{TrialAnswers}
 use Rattle.command_base.specs.declared.status.Status.{Status}

@@ -1,10 +1,10 @@
 -- What the top call answers for, of `unbundle`, and what follows of it.
 use Rattle.std.proofs.Common.{◌≡◌, ◌≢◌, ◌∙◌, ◌⊎◌, inl, inr, ℕ, refl, sym, ap, subst}
-use Rattle.otn_ports.proofs.PortLaws.{sink_written_later}
-use Rattle.otn_ports.specs.PortViews.{SinkView, SinkLater}
-use Rattle.otn_ports.specs.Views.{BaysView, line_in_at, client_out_at}
-use Rattle.otn_ports.specs.declared.ended.Ended.{Ended}
-use Rattle.otn_ports.specs.declared.ended.Ended.TheVariants.{Done, Unfinished, Cut, ReportFault, Memory}
+use Rattle.port_base.proofs.PortLaws.{sink_written_later}
+use Rattle.port_base.specs.PortViews.{SinkView, SinkLater}
+use Rattle.port_base.specs.Views.{BaysView, line_in_at, client_out_at}
+use Rattle.port_base.specs.declared.ended.Ended.{Ended}
+use Rattle.port_base.specs.declared.ended.Ended.TheVariants.{Done, Unfinished, Cut, ReportFault, Memory}
 use Rattle.run_laws.proofs.GivenRuns.{follows}
 use Rattle.unbundle_command.specs.Unbundled.{arrived_before, report_text}
 use Rattle.unbundle_command.specs.UnbundleLeft.{IsCut, written_by, UnbundleOf, UnbundleRan}

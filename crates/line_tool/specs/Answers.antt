@@ -1,8 +1,8 @@
 -- Believed: what each command answers for, over all that the top call is handed: as it was, and as it is.
 use Rattle.std.specs.Prelude.{◌≡◌, ◌≢◌, ℕ, List}
-use Rattle.otn_ports.specs.Views.{BaysView}
-use Rattle.otn_ports.specs.declared.ended.Ended.{Ended}
-use Rattle.otn_ports.specs.declared.ended.Ended.TheVariants as ending
+use Rattle.port_base.specs.Views.{BaysView}
+use Rattle.port_base.specs.declared.ended.Ended.{Ended}
+use Rattle.port_base.specs.declared.ended.Ended.TheVariants as ending
 use Rattle.protect_selector.specs.ProtectLeft.{ProtectRan}
 use Rattle.protect_selector.specs.Protecting.{OnlyProtected, ends_of}
 use Rattle.bundle_command.specs.BundleLeft.{BundleRan, OnlyBundled}

@@ -1,10 +1,10 @@
 -- API: what follows of what the command `bundle` answers for: by the bytes that its clients had to give, and where
 -- nothing failed.
 use Rattle.std.specs.Prelude.{◌≡◌, ◌≢◌, ◌↔◌, ◌⊎◌, ◌-◌, ◌+◌, ◌^◌, ◌<◌, ℕ, Bool, false, List, [], ◌++◌, length}
-use Rattle.otn_ports.specs.Given.{HadToGive}
-use Rattle.otn_ports.specs.Views.{Dead, InView, BaysView, line_out_at}
-use Rattle.otn_ports.specs.declared.ended.Ended.{Ended}
-use Rattle.otn_ports.specs.declared.ended.Ended.TheVariants as ending
+use Rattle.port_base.specs.Given.{HadToGive}
+use Rattle.port_base.specs.Views.{Dead, InView, BaysView, line_out_at}
+use Rattle.port_base.specs.declared.ended.Ended.{Ended}
+use Rattle.port_base.specs.declared.ended.Ended.TheVariants as ending
 use Rattle.packet_text.specs.LinesStand.{ReadAsNeeded}
 use Rattle.odu_client.specs.ClientInput.{ClientInput, input_given}
 use Rattle.device_model.specs.Inputs.{has_died}

@@ -1,7 +1,7 @@
 -- API: how commands end where nothing failed.
 use Rattle.std.specs.Prelude.{◌≡◌, ◌≢◌, ◌⊎◌, ℕ}
-use Rattle.otn_ports.specs.PortViews.{SinkView}
-use Rattle.otn_ports.specs.Views.{Dead}
+use Rattle.port_base.specs.PortViews.{SinkView}
+use Rattle.port_base.specs.Views.{Dead}
 use Rattle.plan_file.specs.declared.error.PlanError.{PlanError}
 use Rattle.command_base.specs.AnswerWords.{IsWell}
 use Rattle.command_base.specs.Device.{Device, line_zero}

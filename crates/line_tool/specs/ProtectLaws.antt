@@ -1,11 +1,11 @@
 -- API: what follows of what the command `protect` answers for: by the bytes that both lines had to give, and where
 -- nothing failed.
 use Rattle.std.specs.Prelude.{◌≡◌, ◌≢◌, ◌↔◌, ◌⊎◌, ◌+◌, ◌-◌, ◌^◌, ◌<◌, ℕ, List, length, min}
-use Rattle.otn_ports.specs.Given.{HadToGive}
-use Rattle.otn_ports.specs.PortViews.{SinkGot}
-use Rattle.otn_ports.specs.Views.{line_in_at}
-use Rattle.otn_ports.specs.declared.ended.Ended.{Ended}
-use Rattle.otn_ports.specs.declared.ended.Ended.TheVariants as ending
+use Rattle.port_base.specs.Given.{HadToGive}
+use Rattle.port_base.specs.PortViews.{SinkGot}
+use Rattle.port_base.specs.Views.{line_in_at}
+use Rattle.port_base.specs.declared.ended.Ended.{Ended}
+use Rattle.port_base.specs.declared.ended.Ended.TheVariants as ending
 use Rattle.line_side.specs.LineForm.{plain_otu2}
 use Rattle.tributary_model.specs.Places.{Tributary}
 use Rattle.device_model.specs.Moments.{line_read}

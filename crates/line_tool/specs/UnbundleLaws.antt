@@ -2,11 +2,11 @@
 -- nothing failed.
 use Rattle.std.specs.Prelude.{◌≡◌, ◌≢◌, ◌↔◌, ◌⊎◌, ◌-◌, ◌^◌, ◌<◌, ℕ, List}
 use Rattle.otn_base.specs.declared.limits.TheConstants.{CLIENTS}
-use Rattle.otn_ports.specs.Given.{HadToGive}
-use Rattle.otn_ports.specs.PortViews.{SinkWrites}
-use Rattle.otn_ports.specs.Views.{Dead, BaysView, line_in_at, client_out_at}
-use Rattle.otn_ports.specs.declared.ended.Ended.{Ended}
-use Rattle.otn_ports.specs.declared.ended.Ended.TheVariants as ending
+use Rattle.port_base.specs.Given.{HadToGive}
+use Rattle.port_base.specs.PortViews.{SinkWrites}
+use Rattle.port_base.specs.Views.{Dead, BaysView, line_in_at, client_out_at}
+use Rattle.port_base.specs.declared.ended.Ended.{Ended}
+use Rattle.port_base.specs.declared.ended.Ended.TheVariants as ending
 use Rattle.unbundle_command.specs.Unbundled.{arrived_before, report_text}
 use Rattle.unbundle_command.specs.Unbundling.{OnlyUnbundled}
 use Rattle.unbundle_command.specs.UnbundleLeft.{HasMore, IsCut, OutputsSent, written_by}

@@ -11,7 +11,7 @@ use check_command::{check_plan, status_of_check};
 use command_base::{Status, status_of};
 use command_words::{Command, command_of};
 use line_commands::{write_pull, write_slot};
-use otn_ports::{Chooser, Rack, Sink, Source};
+use port_base::{Chooser, Rack, Sink, Source};
 use protect_selector::protect;
 use run_command::{run_plan, status_of_run};
 use std::alloc::Global;

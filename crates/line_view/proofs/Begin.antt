@@ -3,10 +3,10 @@ use Rattle.std.proofs.Common.{◌≡◌, ◌<◌, ◌∙◌, ℕ, zero, suc, Lis
 use Rattle.std.specs.Prelude.{map}
 use Rattle.std.specs.List.{flat_map}
 use Rattle.std.proofs.lemmas.Option.{slice_get_within}
-use Rattle.otn_ports.specs.Views.{InView}
-use Rattle.otn_ports.specs.declared.ended.Ended.{Ended}
-use Rattle.otn_ports.specs.declared.ended.Ended.TheVariants.{Done, Unfinished, Cut, ReportFault, Memory}
-use Rattle.otn_ports.specs.PortViews.{SinkView}
+use Rattle.port_base.specs.Views.{InView}
+use Rattle.port_base.specs.declared.ended.Ended.{Ended}
+use Rattle.port_base.specs.declared.ended.Ended.TheVariants.{Done, Unfinished, Cut, ReportFault, Memory}
+use Rattle.port_base.specs.PortViews.{SinkView}
 use Rattle.line_side.specs.LineForm.{LineForm, size_of}
 use Rattle.line_side.specs.LineStands.{LineView, LineStands, frames_taken}
 use Rattle.tributary_model.specs.Places.{msi_in}

@@ -8,15 +8,15 @@ use Rattle.std.proofs.lemmas.Grind.{flat_map-append}
 use Rattle.otn_base.specs.LineSlots.{slots_of}
 use Rattle.otn_base.specs.declared.line_kind.LineKind.{LineKind}
 use Rattle.otn_base.specs.declared.line_kind.LineKind.TheVariants.{Otu2, Otu3}
-use Rattle.otn_ports.proofs.GivenLaws.{gave_none, gave_twice}
-use Rattle.otn_ports.specs.Given.{Gave}
-use Rattle.otn_ports.specs.PortViews.{SinkView, SinkWrites}
-use Rattle.otn_ports.specs.Reads.{HasEnded}
-use Rattle.otn_ports.specs.Views.{Live, Dead, InView}
-use Rattle.otn_ports.specs.declared.drain.Written.{Written}
-use Rattle.otn_ports.specs.declared.drain.Written.TheVariants as written
-use Rattle.otn_ports.specs.declared.ended.Ended.{Ended}
-use Rattle.otn_ports.specs.declared.ended.Ended.TheVariants.{Done, Unfinished, Cut, ReportFault, Memory}
+use Rattle.port_base.proofs.GivenLaws.{gave_none, gave_twice}
+use Rattle.port_base.specs.Given.{Gave}
+use Rattle.port_base.specs.PortViews.{SinkView, SinkWrites}
+use Rattle.port_base.specs.Reads.{HasEnded}
+use Rattle.port_base.specs.Views.{Live, Dead, InView}
+use Rattle.port_base.specs.declared.drain.Written.{Written}
+use Rattle.port_base.specs.declared.drain.Written.TheVariants as written
+use Rattle.port_base.specs.declared.ended.Ended.{Ended}
+use Rattle.port_base.specs.declared.ended.Ended.TheVariants.{Done, Unfinished, Cut, ReportFault, Memory}
 use Rattle.line_side.proofs.Frames.{length_parts}
 use Rattle.line_side.specs.LineFile.{mfas_of}
 use Rattle.line_side.specs.LineForm.{LineForm, size_of, through_mask}

@@ -6,11 +6,11 @@ use Rattle.std.proofs.Math.Seq.{take-append-add, take-length}
 use Rattle.std.proofs.lemmas.Grind.{flat_map-append}
 use Rattle.std.proofs.lemmas.List.{take-append-drop, take-append-le}
 use Rattle.std.proofs.lemmas.Option.{same_Some, slice_get_read, slice_get_within}
-use Rattle.otn_ports.proofs.PortLaws.{sink_got_none, sink_got_twice}
-use Rattle.otn_ports.specs.Bytes.{HasFailed}
-use Rattle.otn_ports.specs.PortViews.{SinkGot, SinkView, SinkWrites}
-use Rattle.otn_ports.specs.declared.drain.Written.{Written}
-use Rattle.otn_ports.specs.declared.drain.Written.TheVariants as written
+use Rattle.port_base.proofs.PortLaws.{sink_got_none, sink_got_twice}
+use Rattle.port_base.specs.Bytes.{HasFailed}
+use Rattle.port_base.specs.PortViews.{SinkGot, SinkView, SinkWrites}
+use Rattle.port_base.specs.declared.drain.Written.{Written}
+use Rattle.port_base.specs.declared.drain.Written.TheVariants as written
 use Rattle.line_side.specs.LineForm.{LineForm}
 use Rattle.line_view.specs.Steps.ViewRuns.{lines_of, watched_line}
 use Rattle.line_view.specs.ViewText.{is_shown, has_begun, msi_at_turn, msi_line, seen_at, showing_text, told_at, turn_line, tributary_line, turn_text}

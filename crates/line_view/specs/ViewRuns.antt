@@ -1,14 +1,14 @@
 -- API: how a view goes: what it took of its line, what its report gained, and why it ended.
 use Rattle.std.specs.Prelude.{◌≡◌, ◌≢◌, ◌<◌, ◌≤◌, ◌+◌, ◌*◌, ◌%◌, ◌==◌, if◌then◌else◌, min, ℕ, zero, suc, Bool, true, false, List, [], ◌++◌, length}
 use Rattle.otn_base.specs.declared.limits.TheConstants.{LINE_FRAME_BYTES}
-use Rattle.otn_ports.specs.Given.{Gave}
-use Rattle.otn_ports.specs.PortViews.{SinkView, SinkWrites}
-use Rattle.otn_ports.specs.Reads.{HasEnded}
-use Rattle.otn_ports.specs.Views.{InView, Live, Dead}
-use Rattle.otn_ports.specs.declared.drain.Written.{Written}
-use Rattle.otn_ports.specs.declared.drain.Written.TheVariants as written
-use Rattle.otn_ports.specs.declared.ended.Ended.{Ended}
-use Rattle.otn_ports.specs.declared.ended.Ended.TheVariants.{Done, Unfinished, Cut, ReportFault, Memory}
+use Rattle.port_base.specs.Given.{Gave}
+use Rattle.port_base.specs.PortViews.{SinkView, SinkWrites}
+use Rattle.port_base.specs.Reads.{HasEnded}
+use Rattle.port_base.specs.Views.{InView, Live, Dead}
+use Rattle.port_base.specs.declared.drain.Written.{Written}
+use Rattle.port_base.specs.declared.drain.Written.TheVariants as written
+use Rattle.port_base.specs.declared.ended.Ended.{Ended}
+use Rattle.port_base.specs.declared.ended.Ended.TheVariants.{Done, Unfinished, Cut, ReportFault, Memory}
 use Rattle.line_side.specs.LineFile.{mfas_of}
 use Rattle.line_side.specs.LineForm.{LineForm, size_of, through_mask}
 use Rattle.line_side.specs.Reader.{EndedAs, rest_of}

@@ -3,7 +3,7 @@ ghost use Rattle.std.specs.Prelude.{◌≡◌, ◌≤◌, ◌<◌, ◌+◌, ◌*
 ghost use Rattle.std.specs.Fmt.{decimal};
 ghost use Rattle.arrayvec.specs.ArrayString.{array_string_len};
 ghost use Rattle.otn_base.specs.declared.limits.TheConstants.{MOST_SLOTS, MOST_TURNS};
-ghost use Rattle.otn_ports.specs.PortViews.{SinkWrites, sink_view};
+ghost use Rattle.port_base.specs.PortViews.{SinkWrites, sink_view};
 ghost use Rattle.line_view.specs.ViewText.{head_line, turn_line, hex_text, msi_line, told_text, tributary_line, end_line, slots_text, pair_text};
 ghost use Rattle.line_view.specs.Steps.ViewRuns.{lines_of, watched_line};
 ghost use Rattle.line_view.specs.declared.shown.TheConstants.{NAME_BYTES};
@@ -14,7 +14,7 @@ use crate::words::{hex_word, word_of_align, word_of_kind, word_of_mask, word_of_
 use arrayvec::ArrayString;
 use itoa::Buffer;
 use otn_base::LineKind;
-use otn_ports::{Sink, Written, write_whole};
+use port_base::{Sink, Written, write_whole};
 
 /// Room for a line.
 pub const LINE_BYTES: usize = 1024;

@@ -2,8 +2,8 @@
 ghost use Rattle.std.specs.Prelude.{◌≡◌, ◌<◌, ◌≤◌, ◌+◌, ◌*◌, ℕ, List, [], if◌then◌else◌, length};
 ghost use Rattle.otn_base.specs.LineSlots.{slots_of};
 ghost use Rattle.otn_base.specs.declared.limits.TheConstants.{GROUPS, MOST_SLOTS};
-ghost use Rattle.otn_ports.specs.InPlace.{in_view};
-ghost use Rattle.otn_ports.specs.Views.{InView};
+ghost use Rattle.port_base.specs.InPlace.{in_view};
+ghost use Rattle.port_base.specs.Views.{InView};
 ghost use Rattle.line_side.specs.LineForm.{LineForm};
 ghost use Rattle.line_view.specs.Steps.Viewing.{ViewStands, ViewMoves, TurnMoves};
 
@@ -11,7 +11,7 @@ use crate::msi::{MsiBytes, note_msi};
 use crate::told::{TurnSeen, counts_between};
 use crate::watched::{Watched, end_each, take_each};
 use otn_base::LineKind;
-use otn_ports::{InPlaceOf, Source};
+use port_base::{InPlaceOf, Source};
 
 /// Does turn t + 1 of a line of this kind, of which no piece is done, and says what was seen of the line in it; its MSI
 /// bytes are noted.

@@ -1,9 +1,9 @@
 // The view of a line, written to a sink.
 ghost use Rattle.std.specs.Prelude.{◌≡◌, ◌≢◌, ◌<◌, ◌+◌, ◌*◌, ℕ, List, [], Some, IfOk, map, length, slice_get, vec_len};
 ghost use Rattle.otn_base.specs.declared.limits.TheConstants.{GROUPS, MOST_SLOTS, MOST_TURNS};
-ghost use Rattle.otn_ports.specs.InPlace.{in_view};
-ghost use Rattle.otn_ports.specs.PortViews.{sink_view};
-ghost use Rattle.otn_ports.specs.Views.{InView};
+ghost use Rattle.port_base.specs.InPlace.{in_view};
+ghost use Rattle.port_base.specs.PortViews.{sink_view};
+ghost use Rattle.port_base.specs.Views.{InView};
 ghost use Rattle.line_side.specs.LineForm.{LineForm};
 ghost use Rattle.line_view.specs.ViewRuns.{ViewEnded};
 ghost use Rattle.line_view.specs.Steps.ViewRuns.{TurnRun, FinishRun, AnswerRun};
@@ -20,7 +20,7 @@ use crate::watched::{Watched, new_watched};
 use arrayvec::ArrayVec;
 use otn_base::LineKind;
 use otn_base::limits::{GROUPS, MOST_SLOTS, MOST_TURNS};
-use otn_ports::{Ended, InPlaceOf, Sink, Source, Written};
+use port_base::{Ended, InPlaceOf, Sink, Source, Written};
 use std::alloc::{AllocError, Global};
 
 // What comes after a turn.

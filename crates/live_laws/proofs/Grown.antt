@@ -4,10 +4,10 @@ use Rattle.std.proofs.lemmas.Bool.Decides.{eqb_tells}
 use Rattle.std.proofs.lemmas.List.{append_assoc}
 use Rattle.otn_base.specs.declared.kind.PortName.{PortName}
 use Rattle.otn_base.specs.declared.kind.PortName.TheVariants as port
-use Rattle.otn_ports.specs.Bytes.{before}
-use Rattle.otn_ports.specs.Given.{Gave}
-use Rattle.otn_ports.specs.Places.{place_at, Input}
-use Rattle.otn_ports.specs.Views.{InView, BaysView, line_in_at}
+use Rattle.port_base.specs.Bytes.{before}
+use Rattle.port_base.specs.Given.{Gave}
+use Rattle.port_base.specs.Places.{place_at, Input}
+use Rattle.port_base.specs.Views.{InView, BaysView, line_in_at}
 use Rattle.line_side.specs.LineForm.{LineForm}
 use Rattle.line_side.specs.LineStands.{LineView, LineStands}
 use Rattle.plan_file.specs.declared.plan.Plan.{Plan}

@@ -3,9 +3,9 @@ use Rattle.std.proofs.Common.{◌≡◌, ◌≢◌, ℕ, Bool, true, false, List
 use Rattle.std.proofs.lemmas.Bool.Decides.{eqb_tells}
 use Rattle.otn_base.specs.declared.kind.PortName.{PortName}
 use Rattle.otn_base.specs.declared.kind.PortName.TheVariants as port
-use Rattle.otn_ports.specs.Places.{place_at, Input}
-use Rattle.otn_ports.specs.Retiring.{retired_in_as}
-use Rattle.otn_ports.specs.Views.{State, Empty, Live, Dead, InView, BaysView, client_in_at}
+use Rattle.port_base.specs.Places.{place_at, Input}
+use Rattle.port_base.specs.Retiring.{retired_in_as}
+use Rattle.port_base.specs.Views.{State, Empty, Live, Dead, InView, BaysView, client_in_at}
 use Rattle.packet_text.specs.LinesStand.{LinesView, LinesStand, lines_view}
 use Rattle.plan_file.specs.declared.connection.Connection.{Connection}
 use Rattle.plan_file.specs.declared.plan.Plan.{Plan}

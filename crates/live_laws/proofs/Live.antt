@@ -4,7 +4,7 @@ use Rattle.std.specs.Prelude.{if◌then◌else◌}
 use Rattle.std.proofs.lemmas.Bool.Decides.{eqb_tells}
 use Rattle.std.proofs.lemmas.Grind.{common_steps}
 use Rattle.std.proofs.lemmas.List.{get_or-set_same, get_or-set_other}
-use Rattle.otn_ports.specs.Views.{Live, InView, BaysView, no_input, line_in_at, client_in_at}
+use Rattle.port_base.specs.Views.{Live, InView, BaysView, no_input, line_in_at, client_in_at}
 use Rattle.plan_file.specs.declared.plan.Plan.{Plan}
 use Rattle.node_moments.specs.NodeView.{NodeView}
 use Rattle.node_moments.specs.Stands.{InputBytes, StandsAt, Later}

@@ -2,11 +2,11 @@
 use Rattle.std.proofs.Common.{◌≡◌, ◌≢◌, ◌<◌, ℕ, Bool, true, false, List, Option, None, Some, refl, sym, ap, ◌∙◌, subst, inl, inr, arith}
 use Rattle.std.proofs.lemmas.Bool.Decides.{nat_tests}
 use Rattle.otn_base.specs.declared.kind.PortName.TheVariants as port
-use Rattle.otn_ports.specs.Bytes.{HasFailed, before}
-use Rattle.otn_ports.specs.Given.{Lives, HadToGive}
-use Rattle.otn_ports.specs.Reads.{HasEnded}
-use Rattle.otn_ports.specs.Retiring.{retired_in_as}
-use Rattle.otn_ports.specs.Views.{State, Empty, Live, Dead, InView, line_in_at, client_in_at}
+use Rattle.port_base.specs.Bytes.{HasFailed, before}
+use Rattle.port_base.specs.Given.{Lives, HadToGive}
+use Rattle.port_base.specs.Reads.{HasEnded}
+use Rattle.port_base.specs.Retiring.{retired_in_as}
+use Rattle.port_base.specs.Views.{State, Empty, Live, Dead, InView, line_in_at, client_in_at}
 use Rattle.line_side.specs.LineForm.{LineForm, through_mask}
 use Rattle.line_side.specs.LineStands.{LineView, LineStands}
 use Rattle.line_side.specs.MayBe.{MayBe}

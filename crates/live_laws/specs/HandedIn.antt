@@ -1,6 +1,6 @@
 -- API: bytes that are handed in while a node goes.
 use Rattle.std.specs.Prelude.{◌≡◌, ◌≢◌, ℕ, false, List, ◌++◌, Option, Some, None}
-use Rattle.otn_ports.specs.Views.{InView, BaysView, line_in_at, client_in_at}
+use Rattle.port_base.specs.Views.{InView, BaysView, line_in_at, client_in_at}
 use Rattle.plan_file.specs.declared.plan.Plan.{Plan}
 use Rattle.node_moments.specs.NodeView.{NodeView}
 use Rattle.node_moments.specs.Stands.{InputBytes, StandsAt}

@@ -1,8 +1,8 @@
 -- API: what has left of a live node, by what was handed in.
 use Rattle.std.specs.Prelude.{◌≡◌, ◌≤◌, ◌+◌, ℕ, min, true, false, List, slice_get, Some}
 use Rattle.otn_base.specs.declared.kind.PortName.TheVariants as port
-use Rattle.otn_ports.specs.Sent.{IsSent}
-use Rattle.otn_ports.specs.Views.{OutView, BaysView, line_in_at, line_out_at, client_in_at, client_out_at}
+use Rattle.port_base.specs.Sent.{IsSent}
+use Rattle.port_base.specs.Views.{OutView, BaysView, line_in_at, line_out_at, client_in_at, client_out_at}
 use Rattle.line_side.specs.LineForm.{through_mask}
 use Rattle.odu_client.specs.ClientInput.{input_given}
 use Rattle.plan_file.specs.declared.connection.Connection.{Connection}

@@ -3,16 +3,16 @@ use Rattle.std.proofs.Common.{◌≡◌, ℕ, List, Some, get_or, map, set, refl
 use Rattle.std.specs.Prelude.{slice_get}
 use Rattle.std.proofs.Math.Seq.{map-set_same}
 use Rattle.std.proofs.lemmas.Option.{get_or_from_slice_get}
-use Rattle.otn_ports.specs.InPlace.{in_view}
-use Rattle.otn_ports.specs.OutPlace.{out_view}
-use Rattle.otn_ports.specs.Racks.{line_ins, line_outs, client_ins, client_outs, with_line_in, with_line_out, with_client_in, with_client_out}
-use Rattle.otn_ports.specs.Views.{InView, line_in_at, client_in_at}
-use Rattle.otn_ports.specs.declared.bays.Rack.{Rack}
-use Rattle.otn_ports.specs.declared.in_place.InPlaceOf.{InPlaceOf}
-use Rattle.otn_ports.specs.declared.in_place.InPlaceOf.TheVariants as input
-use Rattle.otn_ports.specs.declared.out_place.OutPlaceOf.{OutPlaceOf}
-use Rattle.otn_ports.specs.declared.out_place.OutPlaceOf.TheVariants as output
-use Rattle.otn_ports.proofs.BaysLaws.{line_in_seen, line_in_set, only_line_in, client_in_seen, client_in_set, only_client_in}
+use Rattle.port_base.specs.InPlace.{in_view}
+use Rattle.port_base.specs.OutPlace.{out_view}
+use Rattle.port_base.specs.Racks.{line_ins, line_outs, client_ins, client_outs, with_line_in, with_line_out, with_client_in, with_client_out}
+use Rattle.port_base.specs.Views.{InView, line_in_at, client_in_at}
+use Rattle.port_base.specs.declared.bays.Rack.{Rack}
+use Rattle.port_base.specs.declared.in_place.InPlaceOf.{InPlaceOf}
+use Rattle.port_base.specs.declared.in_place.InPlaceOf.TheVariants as input
+use Rattle.port_base.specs.declared.out_place.OutPlaceOf.{OutPlaceOf}
+use Rattle.port_base.specs.declared.out_place.OutPlaceOf.TheVariants as output
+use Rattle.port_base.proofs.BaysLaws.{line_in_seen, line_in_set, only_line_in, client_in_seen, client_in_set, only_client_in}
 use Rattle.filled_ports.specs.contracts.sink.FilledSinkSink.TheImpl as sink
 use Rattle.filled_ports.specs.contracts.source.FilledSourceSource.TheImpl as source
 use Rattle.filled_ports.specs.declared.sink.FilledSink.{FilledSink}

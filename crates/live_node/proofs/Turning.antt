@@ -1,6 +1,6 @@
 -- A live node that has done a turn.
 use Rattle.std.proofs.Common.{◌≡◌, sym, subst}
-use Rattle.otn_ports.specs.Views.{BaysView}
+use Rattle.port_base.specs.Views.{BaysView}
 use Rattle.plan_file.specs.declared.plan.Plan.{Plan}
 use Rattle.node_moments.specs.NodeView.{NodeView}
 use Rattle.node_moments.specs.Stands.{InputBytes, StandsAt, no_bytes}

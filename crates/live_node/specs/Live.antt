@@ -1,6 +1,6 @@
 -- API: what the calls of a live node do, wherever it stands.
 use Rattle.std.specs.Prelude.{◌≡◌, ℕ, List}
-use Rattle.otn_ports.specs.Views.{BaysView}
+use Rattle.port_base.specs.Views.{BaysView}
 use Rattle.plan_file.specs.declared.plan.Plan.{Plan}
 use Rattle.device_model.specs.Report.{Numbers}
 use Rattle.node_moments.specs.NodeView.{NodeView}

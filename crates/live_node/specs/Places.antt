@@ -1,10 +1,10 @@
 -- API: what is seen of the places of a live node.
 use Rattle.std.specs.Prelude.{◌≡◌, ◌<◌, ℕ, List, [], get_or}
-use Rattle.otn_ports.specs.Racks.{bays_view, line_outs, client_outs}
-use Rattle.otn_ports.specs.Views.{BaysView, line_in_at, line_out_at, client_in_at, client_out_at}
-use Rattle.otn_ports.specs.declared.bays.Rack.{Rack}
-use Rattle.otn_ports.specs.declared.out_place.OutPlaceOf.{OutPlaceOf}
-use Rattle.otn_ports.specs.declared.out_place.OutPlaceOf.TheVariants as output
+use Rattle.port_base.specs.Racks.{bays_view, line_outs, client_outs}
+use Rattle.port_base.specs.Views.{BaysView, line_in_at, line_out_at, client_in_at, client_out_at}
+use Rattle.port_base.specs.declared.bays.Rack.{Rack}
+use Rattle.port_base.specs.declared.out_place.OutPlaceOf.{OutPlaceOf}
+use Rattle.port_base.specs.declared.out_place.OutPlaceOf.TheVariants as output
 use Rattle.filled_ports.specs.Filled.{filled_kept}
 use Rattle.filled_ports.specs.contracts.sink.FilledSinkSink.TheImpl as sink
 use Rattle.filled_ports.specs.contracts.source.FilledSourceSource.TheImpl as source

@@ -1,9 +1,9 @@
 // The places of a live node: ports in memory, to which bytes are handed in, and from which they are taken out.
 ghost use Rattle.std.specs.Prelude.{◌≡◌, ◌≢◌, ◌<◌, ◌++◌, [], Ok, IfOk, false};
 ghost use Rattle.filled_ports.specs.Filled.{filled_left, filled_ended};
-ghost use Rattle.otn_ports.specs.InPlace.{in_view};
-ghost use Rattle.otn_ports.specs.OutPlace.{out_view};
-ghost use Rattle.otn_ports.specs.Views.{line_in_at, client_in_at};
+ghost use Rattle.port_base.specs.InPlace.{in_view};
+ghost use Rattle.port_base.specs.OutPlace.{out_view};
+ghost use Rattle.port_base.specs.Views.{line_in_at, client_in_at};
 ghost use Rattle.node_moments.specs.Stands.{no_bytes};
 ghost use Rattle.live_laws.specs.HandedIn.{grown, LineGrew, ClientGrew};
 ghost use Rattle.live_laws.specs.Live.{OpensWith, holding, telling};
@@ -12,7 +12,7 @@ ghost use Rattle.live_node.specs.Places.{places, kept_at, line_kept, client_kept
 use filled_ports::{FilledSink, FilledSource, Handed};
 use otn_base::Memory;
 use otn_base::limits::{CLIENTS, LINES};
-use otn_ports::{InPlaceOf, OutPlaceOf, Rack, Sink, Source, is_dead_out};
+use port_base::{InPlaceOf, OutPlaceOf, Rack, Sink, Source, is_dead_out};
 use std::alloc::Global;
 
 /// What came of handing in.

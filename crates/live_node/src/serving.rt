@@ -2,7 +2,7 @@
 ghost use Rattle.std.specs.Prelude.{◌≡◌, ◌<◌, ℕ, false};
 ghost use Rattle.otn_base.specs.declared.kind.PortName.{PortName};
 ghost use Rattle.otn_base.specs.declared.kind.PortName.TheVariants.{LineOut as line-out, ClientOut as client-out};
-ghost use Rattle.otn_ports.specs.Racks.{bays_view};
+ghost use Rattle.port_base.specs.Racks.{bays_view};
 ghost use Rattle.node_moments.specs.NodeView.{is_ready};
 ghost use Rattle.network_core.specs.Turns.{LeadsLater};
 ghost use Rattle.live_laws.specs.Live.{AreServed};
@@ -11,7 +11,7 @@ ghost use Rattle.live_node.specs.Served.{StaysServed};
 use node_core::Node;
 use otn_base::PortName;
 use otn_base::limits::{CLIENTS, LINES};
-use otn_ports::{Rack, Sink, Source};
+use port_base::{Rack, Sink, Source};
 
 /// All pieces of the outputs in this turn. No input is asked for anything.
 pub(crate) fn serve_outputs<P: Source, K: Sink>(node: &mut Node, bays: &mut Rack<P, K>)

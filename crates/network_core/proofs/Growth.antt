@@ -1,7 +1,7 @@
 -- What line outputs got grows again.
 use Rattle.std.proofs.Common.{◌≡◌, ◌<◌, ◌+◌, arith, ℕ, List, [], ◌++◌, Option, None, Some, refl, sym, ap, ◌∙◌, append-nil, append_assoc}
-use Rattle.otn_ports.specs.Bytes.{after}
-use Rattle.otn_ports.specs.Views.{OutView, BaysView, no_output, line_out_at}
+use Rattle.port_base.specs.Bytes.{after}
+use Rattle.port_base.specs.Views.{OutView, BaysView, no_output, line_out_at}
 use Rattle.std.proofs.Common.{get_or}
 use Rattle.node_moments.specs.NodeView.{NodeView}
 use Rattle.node_moments.proofs.Later.{later_twice}

@@ -1,5 +1,5 @@
 -- API: a node that is carried for a part of a turn.
-use Rattle.otn_ports.specs.Views.{BaysView}
+use Rattle.port_base.specs.Views.{BaysView}
 use Rattle.plan_file.specs.declared.plan.Plan.{Plan}
 use Rattle.node_moments.specs.NodeView.{NodeView}
 use Rattle.node_moments.specs.Stands.{InputBytes, StandsAt, Later}

@@ -1,11 +1,11 @@
 // What is left of a node's turn, and its end.
 ghost use Rattle.std.specs.Prelude.{◌≡◌, ◌<◌, ◌+◌};
-ghost use Rattle.otn_ports.specs.Racks.{bays_view};
+ghost use Rattle.port_base.specs.Racks.{bays_view};
 ghost use Rattle.node_core.specs.Growing.{OutputsGrow};
 ghost use Rattle.network_core.specs.Turns.{LeadsLater};
 
 use node_core::Node;
-use otn_ports::{Rack, Sink, Source};
+use port_base::{Rack, Sink, Source};
 
 /// All pieces of the turn that are not done yet, and its end.
 pub fn end_turn<P: Source, K: Sink>(node: &mut Node, bays: &mut Rack<P, K>)

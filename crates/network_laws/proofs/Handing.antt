@@ -2,8 +2,8 @@
 use Rattle.std.proofs.Common.{◌≡◌, ◌<◌, ◌≤◌, ◌+◌, ◌*◌, ◌/◌, ◌%◌, ℕ, Bool, List, ◌++◌, None, Some, length, refl, sym, ap, ◌∙◌, subst, arith}
 use Rattle.std.specs.List.{concat, Contains}
 use Rattle.otn_base.specs.LineSlots.{LineSlots, slots_of}
-use Rattle.otn_ports.specs.Given.{IsWritten}
-use Rattle.otn_ports.specs.Views.{line_out_at}
+use Rattle.port_base.specs.Given.{IsWritten}
+use Rattle.port_base.specs.Views.{line_out_at}
 use Rattle.frame_geometry.specs.Places.{place_of}
 use Rattle.line_side.specs.LineFile.{frame_at, mfas_of}
 use Rattle.line_side.specs.LineForm.{size_of, through_mask}

@@ -3,7 +3,7 @@ use Rattle.std.proofs.Common.{◌≡◌, ◌<◌, ◌≤◌, ◌+◌, ◌-◌, �
 use Rattle.std.specs.List.{Contains}
 use Rattle.std.proofs.Math.Nat.{mul-le-mul_left}
 use Rattle.otn_base.specs.LineSlots.{LineSlots, slots_of}
-use Rattle.otn_ports.specs.Views.{client_out_at}
+use Rattle.port_base.specs.Views.{client_out_at}
 use Rattle.line_side.specs.LineForm.{LineForm, size_of, through_mask}
 use Rattle.multiframe.specs.LineTurns.{multiframe}
 use Rattle.plan_file.specs.declared.connection.Connection.{Connection}

@@ -4,17 +4,17 @@ use Rattle.std.proofs.lemmas.Bool.Decides.{eqb_tells}
 use Rattle.std.specs.Prelude.{not}
 use Rattle.std.proofs.lemmas.Option.{same_Some, slice_get_within, slice_get-get_or}
 use Rattle.otn_base.specs.declared.kind.PortName.{PortName}
-use Rattle.otn_ports.specs.InPlace.{in_view}
-use Rattle.otn_ports.specs.OnePlace.{OnlyLineIn}
-use Rattle.otn_ports.specs.Racks.{bays_view, line_ins, with_line_in}
-use Rattle.otn_ports.specs.Views.{InView, BaysView, line_in_at}
-use Rattle.otn_ports.specs.declared.bays.Rack.{Rack}
-use Rattle.otn_ports.specs.declared.in_place.InPlaceOf.{InPlaceOf}
-use Rattle.otn_ports.specs.declared.sink.Sink as sink
-use Rattle.otn_ports.specs.declared.source.Source as source
-use Rattle.otn_ports.proofs.BaysLaws.{line_in_seen, line_in_set, only_line_in}
+use Rattle.port_base.specs.InPlace.{in_view}
+use Rattle.port_base.specs.OnePlace.{OnlyLineIn}
+use Rattle.port_base.specs.Racks.{bays_view, line_ins, with_line_in}
+use Rattle.port_base.specs.Views.{InView, BaysView, line_in_at}
+use Rattle.port_base.specs.declared.bays.Rack.{Rack}
+use Rattle.port_base.specs.declared.in_place.InPlaceOf.{InPlaceOf}
+use Rattle.port_base.specs.declared.sink.Sink as sink
+use Rattle.port_base.specs.declared.source.Source as source
+use Rattle.port_base.proofs.BaysLaws.{line_in_seen, line_in_set, only_line_in}
 use Rattle.line_side.specs.LineStands.{LineView}
-use Rattle.otn_ports.specs.Asked.{has_come, ByteAsked, ByteAnswer}
+use Rattle.port_base.specs.Asked.{has_come, ByteAsked, ByteAnswer}
 use Rattle.node_core.specs.Asking.{asks_line}
 use Rattle.node_core.specs.Steps.Asking.{LinesAnswer, is_cut, CutAnswer, OpenAnswer, OpensAnswer, SaysSpent}
 use Rattle.turn_pieces.specs.Pieces.{PiecesView}

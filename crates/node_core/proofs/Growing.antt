@@ -3,9 +3,9 @@ use Rattle.std.proofs.Common.{◌≡◌, ◌≢◌, inl, inr, ℕ, List, [], ◌
 use Rattle.std.proofs.lemmas.Bool.Decides.{eqb_tells}
 use Rattle.otn_base.specs.declared.kind.PortName.{PortName}
 use Rattle.otn_base.specs.declared.kind.PortName.TheVariants as port
-use Rattle.otn_ports.specs.Bytes.{after}
-use Rattle.otn_ports.specs.Places.{OnlyPort, output_of}
-use Rattle.otn_ports.specs.Views.{OutView, BaysView, line_out_at}
+use Rattle.port_base.specs.Bytes.{after}
+use Rattle.port_base.specs.Places.{OnlyPort, output_of}
+use Rattle.port_base.specs.Views.{OutView, BaysView, line_out_at}
 use Rattle.node_core.specs.Growing.{OutputsGrow}
 
 none_after : (got : Option (List ℕ)) → got ≡ after got []

@@ -2,7 +2,7 @@
 use Rattle.std.proofs.Common.{◌≡◌, ◌≤◌, ◌∙◌, ℕ, true, ap}
 use Rattle.otn_base.specs.declared.kind.PortName.TheVariants as port
 use Rattle.otn_base.specs.declared.limits.TheConstants.{LINES}
-use Rattle.otn_ports.specs.Views.{BaysView, line_in_at}
+use Rattle.port_base.specs.Views.{BaysView, line_in_at}
 use Rattle.line_side.specs.LineStands.{LineView}
 use Rattle.line_side.specs.Reader.{rest_of}
 use Rattle.plan_file.specs.declared.plan.Plan.{Plan}

@@ -8,8 +8,8 @@ use Rattle.std.proofs.lemmas.Option.{slice_get_within, get_or_from_slice_get}
 use Rattle.otn_base.specs.declared.kind.PortName.{PortName}
 use Rattle.otn_base.specs.declared.kind.PortName.TheVariants as port
 use Rattle.otn_base.specs.declared.limits.TheConstants.{LINES}
-use Rattle.otn_ports.specs.Places.{input_of, output_of}
-use Rattle.otn_ports.specs.Views.{is_dead, BaysView, line_in_at, client_in_at, no_input, no_output}
+use Rattle.port_base.specs.Places.{input_of, output_of}
+use Rattle.port_base.specs.Views.{is_dead, BaysView, line_in_at, client_in_at, no_input, no_output}
 use Rattle.line_side.specs.LineStands.{LineView, LineStands}
 use Rattle.packet_text.specs.LinesStand.{ReadAsNeeded}
 use Rattle.odu_client.specs.ClientInput.{is_spent, emitted_before, input_given, packets_asked}
@@ -23,8 +23,8 @@ use Rattle.device_model.specs.Through.{Inputs, of_client}
 use Rattle.device_model.specs.SoundPlans.{IsSoundEntry}
 use Rattle.device_model.proofs.SoundPlans.{sound_plan}
 use Rattle.cross_matrix.specs.Parts.{MayShow}
-use Rattle.otn_ports.proofs.GivenLaws.{dead_of}
-use Rattle.otn_ports.specs.Asked.{has_come, ByteAsked}
+use Rattle.port_base.proofs.GivenLaws.{dead_of}
+use Rattle.port_base.specs.Asked.{has_come, ByteAsked}
 use Rattle.device_model.specs.LineAsked.{is_seen}
 use Rattle.node_core.specs.Asking.{asks_line, LinesAsked}
 use Rattle.node_core.specs.Steps.Asking.{LinesAnswer, is_cut, CutAnswer, SaysSpent, OpenLink, OpensAnswer, outcome_by}

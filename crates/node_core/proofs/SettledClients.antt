@@ -2,8 +2,8 @@
 use Rattle.std.proofs.Common.{◌≡◌, ◌≢◌, ◌⊎◌, inl, inr, ◌+◌, ◌-◌, ◌∙◌, ◌&&◌, ℕ, Bool, true, false, List, [], ◌++◌, length, refl, sym, ap, subst, append_assoc, append-nil}
 use Rattle.std.specs.Prelude.{not, if◌then◌else◌}
 use Rattle.otn_base.specs.declared.kind.PortName.TheVariants as port
-use Rattle.otn_ports.specs.Given.{Lives}
-use Rattle.otn_ports.specs.Views.{State, Empty, Live, Dead, is_dead, InView}
+use Rattle.port_base.specs.Given.{Lives}
+use Rattle.port_base.specs.Views.{State, Empty, Live, Dead, is_dead, InView}
 use Rattle.packet_text.specs.TextLines.{full_lines, text_of_dead}
 use Rattle.packet_text.specs.LinesStand.{LinesView, LinesStand, ReadAsNeeded, read_short, lines_view, may_be}
 use Rattle.packet_text.specs.PacketText.{packets_of}

@@ -1,7 +1,7 @@
 -- A node past its last turn that was settled, with the numbers that it tells, leaves what a run of its plan leaves.
 use Rattle.std.proofs.Common.{◌≡◌, ◌≤◌, length, sym, subst}
 use Rattle.otn_base.specs.declared.limits.TheConstants.{LINES}
-use Rattle.otn_ports.specs.Views.{BaysView}
+use Rattle.port_base.specs.Views.{BaysView}
 use Rattle.plan_file.specs.declared.plan.Plan.{Plan}
 use Rattle.device_model.specs.Outcomes.{IsOutcome}
 use Rattle.device_model.specs.Report.{Numbers}

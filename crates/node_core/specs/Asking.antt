@@ -1,9 +1,9 @@
 -- API: how the lines of a node are asked for one byte more at its end, and what the end comes to.
 use Rattle.std.specs.Prelude.{◌≡◌, ◌<◌, ◌≤◌, ℕ, Bool, ◌&&◌, not, nat_lt, List, [], Some, slice_get}
 use Rattle.otn_base.specs.declared.kind.PortName.TheVariants as port
-use Rattle.otn_ports.specs.Views.{BaysView, line_in_at}
+use Rattle.port_base.specs.Views.{BaysView, line_in_at}
 use Rattle.line_side.specs.LineStands.{LineView}
-use Rattle.otn_ports.specs.Asked.{ByteAsked}
+use Rattle.port_base.specs.Asked.{ByteAsked}
 use Rattle.device_model.specs.LineAsked.{is_seen}
 use Rattle.turn_pieces.specs.Pieces.{PiecesView, wanted_of}
 

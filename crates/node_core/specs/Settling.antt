@@ -4,7 +4,7 @@ use Rattle.std.specs.List.{Contains}
 use Rattle.otn_base.specs.declared.kind.PortName.{PortName}
 use Rattle.otn_base.specs.declared.kind.PortName.TheVariants as port
 use Rattle.otn_base.specs.declared.limits.TheConstants.{LINES}
-use Rattle.otn_ports.specs.Views.{BaysView, line_in_at, client_in_at}
+use Rattle.port_base.specs.Views.{BaysView, line_in_at, client_in_at}
 use Rattle.line_side.specs.LineNumbers.{numbers_of}
 use Rattle.line_side.specs.LineOutput.{LineOutView}
 use Rattle.line_side.specs.LineStands.{LineView}

@@ -2,11 +2,11 @@
 ghost use Rattle.std.specs.Prelude.{◌≡◌, ◌≤◌, ◌<◌, ◌+◌, ◌*◌, ◌↔◌, ◌&&◌, nat_lt, ℕ, true, false, None, IfOk, IsTrue};
 ghost use Rattle.otn_base.specs.declared.kind.PortName.{PortName};
 ghost use Rattle.otn_base.specs.declared.kind.PortName.TheVariants.{LineIn as line-in, LineOut as line-out, ClientIn as client-in, ClientOut as client-out};
-ghost use Rattle.otn_ports.specs.InPlace.{in_view};
-ghost use Rattle.otn_ports.specs.OutPlace.{out_view};
-ghost use Rattle.otn_ports.specs.Places.{OnlyPort};
-ghost use Rattle.otn_ports.specs.Racks.{bays_view};
-ghost use Rattle.otn_ports.specs.Views.{BaysView};
+ghost use Rattle.port_base.specs.InPlace.{in_view};
+ghost use Rattle.port_base.specs.OutPlace.{out_view};
+ghost use Rattle.port_base.specs.Places.{OnlyPort};
+ghost use Rattle.port_base.specs.Racks.{bays_view};
+ghost use Rattle.port_base.specs.Views.{BaysView};
 ghost use Rattle.plan_file.specs.Answer.{fault_in};
 ghost use Rattle.plan_file.specs.declared.plan.Plan.{Plan};
 ghost use Rattle.node_core.specs.Growing.{OutputsGrow};
@@ -26,8 +26,8 @@ use node_links::{
 use node_moments::{new_lines_in, new_lines_out, new_links};
 use odtu_columns::{SlotFrame, SlotPayload};
 use otn_base::{Memory, PortName};
-use otn_ports::{InPlaceOf, OutPlaceOf, Rack, Sink, Source};
 use plan_file::Plan;
+use port_base::{InPlaceOf, OutPlaceOf, Rack, Sink, Source};
 use std::alloc::Global;
 use std::marker::Model;
 use turn_pieces::Pieces;

@@ -1,8 +1,8 @@
 // A whole run, in the order that a chooser says.
 ghost use Rattle.std.specs.Prelude.{◌≡◌, ◌≤◌, ◌+◌, ℕ};
-ghost use Rattle.otn_ports.specs.Bytes.{raised};
-ghost use Rattle.otn_ports.specs.Racks.{bays_view};
-ghost use Rattle.otn_ports.specs.Views.{BaysView};
+ghost use Rattle.port_base.specs.Bytes.{raised};
+ghost use Rattle.port_base.specs.Racks.{bays_view};
+ghost use Rattle.port_base.specs.Views.{BaysView};
 ghost use Rattle.plan_file.specs.declared.plan.Plan.{Plan};
 ghost use Rattle.device_model.specs.RunLeft.{Takings, RunLeft};
 ghost use Rattle.device_model.specs.RunNumbers.{numbers_of_run};
@@ -10,7 +10,7 @@ ghost use Rattle.node_moments.specs.Stands.{InputBytes, StandsAt, Later, no_byte
 ghost use Rattle.node_moments.specs.NodeView.{left_of};
 
 use crate::{Node, RunNumbers};
-use otn_ports::{Chooser, Rack, Sink, Source};
+use port_base::{Chooser, Rack, Sink, Source};
 
 /// Steps the ready port that the chooser says, its answer taken modulo their number, while one is ready; then ends the
 /// turn; until the node is finished.

@@ -1,12 +1,12 @@
 // How a node past its last turn is settled: each line whose end was not seen is asked for one byte more.
 ghost use Rattle.std.specs.Prelude.{◌≡◌, ◌≤◌, ◌<◌, ◌||◌, true, length};
 ghost use Rattle.otn_base.specs.declared.limits.TheConstants.{LINES as LINE_PORTS};
-ghost use Rattle.otn_ports.specs.InPlace.{in_view};
-ghost use Rattle.otn_ports.specs.Racks.{bays_view};
-ghost use Rattle.otn_ports.specs.Views.{BaysView, is_dead};
+ghost use Rattle.port_base.specs.InPlace.{in_view};
+ghost use Rattle.port_base.specs.Racks.{bays_view};
+ghost use Rattle.port_base.specs.Views.{BaysView, is_dead};
 ghost use Rattle.plan_file.specs.declared.plan.Plan.{Plan};
 ghost use Rattle.device_model.specs.Outcomes.{place_state};
-ghost use Rattle.otn_ports.specs.Asked.{ByteAnswer};
+ghost use Rattle.port_base.specs.Asked.{ByteAnswer};
 ghost use Rattle.node_core.specs.Asking.{LinesAsked, asks_line};
 ghost use Rattle.node_core.specs.Steps.Asking.{LinesAnswer, CutAnswer, OpenAnswer, OpensAnswer, is_cut, outcome_by};
 ghost use Rattle.turn_pieces.specs.Ports.{index_of, port_count};
@@ -19,8 +19,8 @@ use line_side::LineIn;
 use node_links::Link;
 use otn_base::PortName;
 use otn_base::limits::LINES;
-use otn_ports::{InPlaceOf, Rack, Sink, Source, ask_byte, is_dead_in, is_dead_out};
 use plan_file::FromEnd;
+use port_base::{InPlaceOf, Rack, Sink, Source, ask_byte, is_dead_in, is_dead_out};
 use turn_pieces::{PORTS, Pieces, port_at};
 
 impl Node {

@@ -1,7 +1,7 @@
 // The numbers of all ports of a node that is past its last turn.
 ghost use Rattle.std.specs.Prelude.{◌≡◌, ◌<◌, ℕ, None, get_or, length};
 ghost use Rattle.otn_base.specs.declared.limits.TheConstants.{CLIENTS as CLIENT_PORTS, LINES as LINE_PORTS, MOST_CONNECTIONS as CONNECTIONS};
-ghost use Rattle.otn_ports.specs.Views.{BaysView};
+ghost use Rattle.port_base.specs.Views.{BaysView};
 ghost use Rattle.plan_file.specs.declared.plan.Plan.{Plan};
 ghost use Rattle.device_model.specs.RunLeft.{Takings, RunLeft};
 ghost use Rattle.device_model.specs.RunNumbers.{client_in_numbers, client_out_numbers, no_client_in, no_client_out, no_counts, numbers_of_run};

@@ -4,7 +4,7 @@ use Rattle.std.proofs.lemmas.Bool.Decides.{eqb_tells}
 use Rattle.std.proofs.lemmas.List.{length-set}
 use Rattle.std.proofs.lemmas.Option.{same_Some, slice_get_within, slice_get_read}
 use Rattle.otn_base.specs.declared.kind.PortName.TheVariants as port
-use Rattle.otn_ports.specs.Views.{InView, OutView}
+use Rattle.port_base.specs.Views.{InView, OutView}
 use Rattle.device_model.specs.Entries.{own_turn}
 use Rattle.cross_matrix.specs.Parts.{ClientOutStands}
 use Rattle.node_links.specs.Steps.LinkMoves.{FirstOf, TookText, GaveText}

@@ -3,17 +3,17 @@ use Rattle.std.proofs.Common.{◌≡◌, ◌<◌, ◌≤◌, ◌+◌, ℕ, false
 use Rattle.std.proofs.lemmas.Bool.Decides.{eqb_tells}
 use Rattle.std.proofs.lemmas.List.{drop_more}
 use Rattle.otn_base.specs.declared.kind.PortName.TheVariants as port
-use Rattle.otn_ports.specs.InPlace.{in_view}
-use Rattle.otn_ports.specs.OutPlace.{out_view}
-use Rattle.otn_ports.specs.Racks.{bays_view, client_ins, client_outs, with_client_in, with_client_out}
-use Rattle.otn_ports.specs.Retiring.{retired_in, retired_out}
-use Rattle.otn_ports.specs.Views.{BaysView, client_in_at, client_out_at, no_input, no_output}
-use Rattle.otn_ports.specs.declared.bays.Rack.{Rack}
-use Rattle.otn_ports.specs.declared.in_place.InPlaceOf.{InPlaceOf}
-use Rattle.otn_ports.specs.declared.out_place.OutPlaceOf.{OutPlaceOf}
-use Rattle.otn_ports.specs.declared.sink.Sink as sink
-use Rattle.otn_ports.specs.declared.source.Source as source
-use Rattle.otn_ports.proofs.BaysLaws.{client_in_seen, client_in_set, only_client_in, client_out_seen, client_out_set, only_client_out}
+use Rattle.port_base.specs.InPlace.{in_view}
+use Rattle.port_base.specs.OutPlace.{out_view}
+use Rattle.port_base.specs.Racks.{bays_view, client_ins, client_outs, with_client_in, with_client_out}
+use Rattle.port_base.specs.Retiring.{retired_in, retired_out}
+use Rattle.port_base.specs.Views.{BaysView, client_in_at, client_out_at, no_input, no_output}
+use Rattle.port_base.specs.declared.bays.Rack.{Rack}
+use Rattle.port_base.specs.declared.in_place.InPlaceOf.{InPlaceOf}
+use Rattle.port_base.specs.declared.out_place.OutPlaceOf.{OutPlaceOf}
+use Rattle.port_base.specs.declared.sink.Sink as sink
+use Rattle.port_base.specs.declared.source.Source as source
+use Rattle.port_base.proofs.BaysLaws.{client_in_seen, client_in_set, only_client_in, client_out_seen, client_out_set, only_client_out}
 use Rattle.node_links.specs.Links.{joins}
 use Rattle.node_links.specs.Retiring.{RetiredBy, ends_here, retires_at}
 use Rattle.node_links.specs.Steps.Retiring.{RetiredAt}

@@ -12,7 +12,7 @@ use Rattle.frame_geometry.specs.Places.{place_of}
 use Rattle.msi_table.specs.Psi.{IsGiven, port_at}
 use Rattle.line_side.specs.LineForm.{LineForm}
 use Rattle.line_side.specs.LineOutput.{FramePut, LineMade, LineOutView}
-use Rattle.otn_ports.specs.Views.{OutView}
+use Rattle.port_base.specs.Views.{OutView}
 use Rattle.plan_file.specs.Answer.{fault_in}
 use Rattle.plan_file.specs.declared.connection.Connection.{Connection}
 use Rattle.plan_file.specs.declared.connection.ToEnd.TheVariants as to_end

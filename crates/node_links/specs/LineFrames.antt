@@ -1,6 +1,6 @@
 -- API: a frame of an output line as the connections of a node make it, one after the other.
 use Rattle.std.specs.Prelude.{◌≡◌, ℕ, List, None}
-use Rattle.otn_ports.specs.Views.{OutView}
+use Rattle.port_base.specs.Views.{OutView}
 use Rattle.line_side.specs.LineOutput.{LineOutView}
 use Rattle.plan_file.specs.Answer.{fault_in}
 use Rattle.plan_file.specs.declared.plan.Plan.{Plan}

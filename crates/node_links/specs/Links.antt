@@ -1,7 +1,7 @@
 -- API: the connections of a node: for each, what the plan says of it, and its pipe.
 use Rattle.std.specs.Prelude.{◌≡◌, ◌+◌, ◌≤◌, ℕ, Bool, ◌&&◌, List, nat_le, nat_lt}
 use Rattle.otn_base.specs.declared.kind.PortName.{PortName}
-use Rattle.otn_ports.specs.Views.{InView}
+use Rattle.port_base.specs.Views.{InView}
 use Rattle.odu_client.specs.ClientInput.{ClientInput, emitted_before}
 use Rattle.plan_file.specs.declared.connection.Connection.{Connection}
 use Rattle.tributary_model.specs.Places.{Taken}

@@ -3,7 +3,7 @@ use Rattle.std.specs.Prelude.{◌≡◌, ◌+◌, ◌==◌, ◌&&◌, ℕ, Bool,
 use Rattle.std.specs.List.{list_any}
 use Rattle.otn_base.specs.declared.kind.PortName.{PortName}
 use Rattle.otn_base.specs.declared.kind.PortName.TheVariants as port
-use Rattle.otn_ports.specs.Views.{BaysView, client_in_at, client_out_at}
+use Rattle.port_base.specs.Views.{BaysView, client_in_at, client_out_at}
 use Rattle.device_model.specs.RetiredPlaces.{after_retire, out_after_retire}
 use Rattle.node_links.specs.Links.{joins}
 use Rattle.node_links.specs.declared.link.Link.{Link}

@@ -1,14 +1,14 @@
 // A piece of a client.
 ghost use Rattle.std.specs.Prelude.{◌≡◌, ◌<◌, ℕ, Some, None, true, false, length, vec_len};
-ghost use Rattle.otn_ports.specs.InPlace.{in_view};
-ghost use Rattle.otn_ports.specs.OutPlace.{out_view};
+ghost use Rattle.port_base.specs.InPlace.{in_view};
+ghost use Rattle.port_base.specs.OutPlace.{out_view};
 ghost use Rattle.node_links.specs.Links.{takes_part};
 ghost use Rattle.node_links.specs.Moves.{TakesClient, GivesClient};
 ghost use Rattle.node_links.specs.Steps.LinkMoves.{FirstOf};
 
 use crate::link::Link;
 use otn_base::PortName;
-use otn_ports::{InPlaceOf, OutPlaceOf, Sink, Source};
+use port_base::{InPlaceOf, OutPlaceOf, Sink, Source};
 
 /// One piece of client input `n` in turn past + 1: the active connection from it, where there is one, takes what the
 /// turn brings.

@@ -2,7 +2,7 @@
 ghost use Rattle.std.specs.Prelude.{◌≡◌, ◌<◌};
 ghost use Rattle.otn_base.specs.LineSlots.{slots_of};
 ghost use Rattle.otn_base.specs.declared.kind.PortName.TheVariants.{LineIn as line-in};
-ghost use Rattle.otn_ports.specs.InPlace.{in_view};
+ghost use Rattle.port_base.specs.InPlace.{in_view};
 ghost use Rattle.node_links.specs.Links.{takes_part};
 ghost use Rattle.node_links.specs.Moves.{EachLink, TookFrame, ReadsLine};
 
@@ -12,7 +12,7 @@ use line_side::LineIn;
 use odtu_columns::{SlotPayload, SplitFrame, TakeFrame};
 use otn_base::PortName;
 use otn_base::limits::LINE_COLUMNS;
-use otn_ports::{InPlaceOf, Source};
+use port_base::{InPlaceOf, Source};
 
 /// One piece of line input `a` in turn past + 1: where it comes to a frame of the turn's multiframe, each active
 /// connection from the line takes it. What `payload` holds is of no account, before and behind the call.

@@ -4,7 +4,7 @@ ghost use Rattle.otn_base.specs.LineSlots.{LineSlots, slots_of};
 ghost use Rattle.otn_base.specs.declared.kind.PortName.TheVariants.{LineOut as line-out};
 ghost use Rattle.otn_base.specs.declared.limits.TheConstants.{LINE_COLUMNS, LINE_FRAME_BYTES as FRAME_BYTES};
 ghost use Rattle.frame_geometry.specs.PayloadParity.{payload_parity_of};
-ghost use Rattle.otn_ports.specs.OutPlace.{out_view};
+ghost use Rattle.port_base.specs.OutPlace.{out_view};
 ghost use Rattle.node_links.specs.Links.{takes_part};
 ghost use Rattle.node_links.specs.LineFrames.{FrameWritten};
 ghost use Rattle.node_links.specs.Steps.LineFrames.{PutsOwn, AllotsOwn, LinkByLink, FromBlank};
@@ -17,8 +17,8 @@ use msi_table::SlotMap;
 use odtu_columns::{FillFrame, SlotFrame};
 use otn_base::limits::{LINE_COLUMNS, LINE_FRAME_BYTES};
 use otn_base::{LineKind, PortName, Slots};
-use otn_ports::{OutPlaceOf, Sink};
 use plan_file::ToEnd;
+use port_base::{OutPlaceOf, Sink};
 
 /// One piece of line output `b`: frame `n`, from 0, of turn past + 1, into which each active connection to the line
 /// puts its own. What `slots` holds is of no account, before and behind the call.

@@ -2,8 +2,8 @@
 ghost use Rattle.std.specs.Prelude.{◌≡◌, ◌<◌, ◌+◌, ◌==◌, ◌^◌, ℕ, true, false, None, Some, IfOk, length, slice_get, get_or, is_some, option_map};
 ghost use Rattle.otn_base.specs.Counts.{saturated};
 ghost use Rattle.otn_base.specs.declared.kind.PortName.TheVariants.{LineIn as line-in, LineOut as line-out, ClientIn as client-in, ClientOut as client-out};
-ghost use Rattle.otn_ports.specs.InPlace.{in_view};
-ghost use Rattle.otn_ports.specs.OutPlace.{out_view};
+ghost use Rattle.port_base.specs.InPlace.{in_view};
+ghost use Rattle.port_base.specs.OutPlace.{out_view};
 ghost use Rattle.odu_client.specs.ClientInput.{bad_line, is_spent, packets_begun};
 ghost use Rattle.plan_file.specs.Answer.{fault_in};
 ghost use Rattle.plan_file.specs.declared.connection.Connection.{Connection};
@@ -15,8 +15,8 @@ use cross_matrix::Pipe;
 use device_model::{FromState, accepted_plans};
 use odtu_columns::{FillFrame, TakeFrame};
 use otn_base::{Memory, PortName};
-use otn_ports::{InPlaceOf, OutPlaceOf, Sink, Source};
 use plan_file::{Connection, FromEnd, Plan};
+use port_base::{InPlaceOf, OutPlaceOf, Sink, Source};
 use std::alloc::Global;
 use turn_pieces::touches;
 

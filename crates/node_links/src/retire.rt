@@ -2,7 +2,7 @@
 ghost use Rattle.std.specs.Prelude.{◌≡◌, ◌<◌, ◌&&◌, ◌==◌, ◌+◌, ℕ, true, false};
 ghost use Rattle.otn_base.specs.declared.kind.PortName.TheVariants.{ClientIn as client-in, ClientOut as client-out};
 ghost use Rattle.otn_base.specs.declared.limits.TheConstants.{CLIENTS as CLIENT_PORTS};
-ghost use Rattle.otn_ports.specs.Racks.{bays_view};
+ghost use Rattle.port_base.specs.Racks.{bays_view};
 ghost use Rattle.device_model.specs.Entries.{is_from_client, is_to_client};
 ghost use Rattle.node_links.specs.Links.{joins};
 ghost use Rattle.node_links.specs.Retiring.{RetiredBy, ends_here};
@@ -10,8 +10,8 @@ ghost use Rattle.node_links.specs.Steps.Retiring.{RetiredAt};
 
 use crate::link::Link;
 use otn_base::limits::CLIENTS;
-use otn_ports::{Rack, Sink, Source};
 use plan_file::{FromEnd, ToEnd};
+use port_base::{Rack, Sink, Source};
 
 /// Empties the client places of each connection that stops in turn past + 1 and retires, where they are live.
 pub fn retire_all<P: Source, K: Sink>(links: &[Link], past: u32, bays: &mut Rack<P, K>)

@@ -5,8 +5,8 @@ use Rattle.std.proofs.lemmas.Bool.Decides.{eqb_tells}
 use Rattle.std.proofs.lemmas.Option.{slice_get_within}
 use Rattle.otn_base.specs.declared.kind.PortName.{PortName}
 use Rattle.otn_base.specs.declared.kind.PortName.TheVariants as port
-use Rattle.otn_ports.specs.Places.{OnlyPort}
-use Rattle.otn_ports.specs.Views.{InView, OutView, BaysView, client_in_at, client_out_at}
+use Rattle.port_base.specs.Places.{OnlyPort}
+use Rattle.port_base.specs.Views.{InView, OutView, BaysView, client_in_at, client_out_at}
 use Rattle.plan_file.specs.declared.connection.Connection.{Connection}
 use Rattle.plan_file.specs.declared.connection.FromEnd.{FromEnd}
 use Rattle.plan_file.specs.declared.connection.FromEnd.TheVariants as from_end

@@ -2,8 +2,8 @@
 use Rattle.std.proofs.Common.{◌≡◌, ◌<◌, ◌≤◌, ◌+◌, ◌-◌, ◌*◌, ℕ, suc, Bool, true, false, ◌&&◌, nat_lt, if◌then◌else◌, arith, refl, sym, ap, ◌∙◌, inl, inr}
 use Rattle.std.proofs.lemmas.Bool.Decides.{nat_tests, eqb_tells}
 use Rattle.otn_base.specs.declared.kind.PortName.{PortName}
-use Rattle.otn_ports.specs.Bytes.{raised}
-use Rattle.otn_ports.specs.Views.{BaysView}
+use Rattle.port_base.specs.Bytes.{raised}
+use Rattle.port_base.specs.Views.{BaysView}
 use Rattle.plan_file.specs.declared.plan.Plan.{Plan}
 use Rattle.node_moments.specs.NodeMoves.{FenceMove}
 use Rattle.node_moments.specs.NodeView.{NodeView, is_ready, ready_number, left_of}

@@ -6,8 +6,8 @@ use Rattle.std.proofs.lemmas.Bool.Decides.{nat_tests, eqb_tells}
 use Rattle.std.proofs.lemmas.List.{length-append, append-nil}
 use Rattle.otn_base.specs.LineSlots.{LineSlots, slots_of}
 use Rattle.otn_base.specs.declared.kind.PortName.TheVariants as port
-use Rattle.otn_ports.specs.Places.{OnlyPort}
-use Rattle.otn_ports.specs.Views.{InView, BaysView, line_in_at}
+use Rattle.port_base.specs.Places.{OnlyPort}
+use Rattle.port_base.specs.Views.{InView, BaysView, line_in_at}
 use Rattle.line_side.specs.LineFile.{frame_at, mfas_of}
 use Rattle.line_side.specs.LineForm.{size_of}
 use Rattle.line_side.specs.LineStands.{LineView, PieceStands}

@@ -5,8 +5,8 @@ use Rattle.std.proofs.lemmas.List.{length-append}
 use Rattle.std.proofs.lemmas.Nat.{div-mul-add, mod-mul-add}
 use Rattle.otn_base.specs.LineSlots.{LineSlots, slots_of}
 use Rattle.otn_base.specs.declared.kind.PortName.TheVariants as port
-use Rattle.otn_ports.specs.Places.{OnlyPort}
-use Rattle.otn_ports.specs.Views.{BaysView, line_out_at}
+use Rattle.port_base.specs.Places.{OnlyPort}
+use Rattle.port_base.specs.Views.{BaysView, line_out_at}
 use Rattle.line_side.specs.LineForm.{size_of}
 use Rattle.line_side.specs.LineOutput.{FramePut}
 use Rattle.plan_file.specs.declared.connection.Connection.{Connection}

@@ -3,8 +3,8 @@ use Rattle.std.proofs.Common.{◌≡◌, ◌≢◌, ◌≤◌, ◌+◌, ℕ, Boo
 use Rattle.std.specs.Prelude.{⊤}
 use Rattle.otn_base.specs.declared.kind.PortName.{PortName}
 use Rattle.otn_base.specs.declared.kind.PortName.TheVariants as port
-use Rattle.otn_ports.specs.Places.{OnlyPort, input_of, output_of}
-use Rattle.otn_ports.specs.Views.{BaysView, line_in_at, line_out_at, client_in_at, client_out_at}
+use Rattle.port_base.specs.Places.{OnlyPort, input_of, output_of}
+use Rattle.port_base.specs.Views.{BaysView, line_in_at, line_out_at, client_in_at, client_out_at}
 use Rattle.line_side.specs.MayBe.{MayBe}
 use Rattle.line_side.specs.LineStands.{LineView}
 use Rattle.plan_file.specs.declared.connection.Connection.{Connection}

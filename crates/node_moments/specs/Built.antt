@@ -1,7 +1,7 @@
 -- API: what a node is made of, before turn 1 of a plan.
 use Rattle.std.specs.Prelude.{◌≡◌, ℕ, List, [], Some, length, slice_get}
 use Rattle.otn_base.specs.declared.limits.TheConstants.{LINES}
-use Rattle.otn_ports.specs.Views.{InView, OutView}
+use Rattle.port_base.specs.Views.{InView, OutView}
 use Rattle.line_side.specs.LineOutput.{LineOutView, LineMade}
 use Rattle.line_side.specs.LineStands.{LineView, LineStands}
 use Rattle.plan_file.specs.declared.connection.Connection.{Connection}

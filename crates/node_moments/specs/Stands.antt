@@ -3,8 +3,8 @@
 use Rattle.std.specs.Prelude.{◌≡◌, ◌<◌, ◌≤◌, ◌+◌, ◌*◌, ℕ, Bool, true, false, ◌==◌, None, Some, List, [], length, slice_get}
 use Rattle.otn_base.specs.declared.kind.PortName.{PortName}
 use Rattle.otn_base.specs.declared.kind.PortName.TheVariants as port
-use Rattle.otn_ports.specs.Places.{place_at}
-use Rattle.otn_ports.specs.Views.{InView, OutView, BaysView, line_in_at, line_out_at, client_in_at, client_out_at}
+use Rattle.port_base.specs.Places.{place_at}
+use Rattle.port_base.specs.Views.{InView, OutView, BaysView, line_in_at, line_out_at, client_in_at, client_out_at}
 use Rattle.line_side.specs.LineForm.{size_of}
 use Rattle.line_side.specs.LineOutput.{LineOutView, FramePut, LineMade}
 use Rattle.line_side.specs.LineStands.{LineView, LineStands}

@@ -2,7 +2,7 @@
 ghost use Rattle.std.specs.Prelude.{◌≡◌, ◌<◌, ℕ, [], None, Some, IfOk, length, slice_get, vec_len};
 ghost use Rattle.std.specs.List.{list_any};
 ghost use Rattle.otn_base.specs.declared.limits.TheConstants.{LINES as LINE_PORTS};
-ghost use Rattle.otn_ports.specs.Views.{InView, OutView};
+ghost use Rattle.port_base.specs.Views.{InView, OutView};
 ghost use Rattle.line_side.specs.LineOutput.{LineMade};
 ghost use Rattle.line_side.specs.LineStands.{LineStands};
 ghost use Rattle.plan_file.specs.Answer.{fault_in};

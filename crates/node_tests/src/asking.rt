@@ -1,11 +1,11 @@
 // In which order a node asks its lines at the end.
 ghost use Rattle.std.specs.Prelude.{None};
-ghost use Rattle.otn_ports.specs.Memory.{memory_ended};
+ghost use Rattle.port_base.specs.Memory.{memory_ended};
 
 use node_core::{Node, Outcome, carry};
 use otn_base::Memory;
-use otn_ports::{Failed, FirstReady, InPlaceOf, MemSink, MemSource, Rack, Source};
 use plan_file::Plan;
+use port_base::{Failed, FirstReady, InPlaceOf, MemSink, MemSource, Rack, Source};
 use std::alloc::Global;
 use std::cell::Cell;
 use std::rc::Rc;

@@ -1,12 +1,12 @@
 // A node that carries one client to a line, in two orders.
 ghost use Rattle.std.specs.Prelude.{◌≡◌, None, length};
-ghost use Rattle.otn_ports.specs.Bytes.{raised};
+ghost use Rattle.port_base.specs.Bytes.{raised};
 ghost use Rattle.plan_file.specs.Answer.{fault_in};
 
 use node_core::{FromState, Node, carry};
 use otn_base::{Memory, PortName};
-use otn_ports::{Chooser, InPlaceOf, MemSink, MemSource, OutPlaceOf, Rack};
 use plan_file::Plan;
+use port_base::{Chooser, InPlaceOf, MemSink, MemSource, OutPlaceOf, Rack};
 use std::alloc::Global;
 use std::test::Fail;
 

@@ -1,8 +1,8 @@
 // How runs of small plans end.
 use node_core::{Node, Outcome, carry};
 use otn_base::Memory;
-use otn_ports::{FirstReady, InPlaceOf, MemSink, MemSource, OutPlaceOf, Rack};
 use plan_file::Plan;
+use port_base::{FirstReady, InPlaceOf, MemSink, MemSource, OutPlaceOf, Rack};
 use std::alloc::Global;
 use std::test::Fail;
 

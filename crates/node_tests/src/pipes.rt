@@ -10,8 +10,8 @@ ghost use Rattle.cross_matrix.specs.Pipes.{IsPipeOf};
 use cross_matrix::{FromState, Pipe};
 use frame_geometry::Frame;
 use otn_base::{Memory, Slots};
-use otn_ports::{InPlaceOf, MemSink, MemSource, OutPlaceOf};
 use plan_file::{Connection, FromEnd, Plan, ToEnd};
+use port_base::{InPlaceOf, MemSink, MemSource, OutPlaceOf};
 use std::alloc::Global;
 use std::test::Fail;
 

@@ -2,7 +2,7 @@
 ghost use Rattle.std.specs.Prelude.{◌≡◌, ◌+◌, ℕ};
 ghost use Rattle.number_order.specs.NumberOrder.{HasGivenWords, number_chooser_asked, order_word};
 
-use otn_ports::Chooser;
+use port_base::Chooser;
 use rand_core::SeedableRng;
 use rand_core::utils::NextWord;
 use rand_pcg::Lcg64Xsh32;
@@ -29,7 +29,7 @@ impl NumberChooser {
 }
 
 impl Chooser for NumberChooser {
-    ghost use Rattle.otn_ports.specs.Bytes.{raised};
+    ghost use Rattle.port_base.specs.Bytes.{raised};
 
     ghost asked = { number_chooser_asked };
 

@@ -2,7 +2,7 @@
 use Rattle.std.proofs.Common.{◌≡◌, ◌≢◌, ◌<◌, ◌≤◌, ◌+◌, ◌*◌, ◌%◌, ℕ, Bool, true, false, List, [], ◌∷◌, ◌++◌, length, drop, Option, None, arith, refl, sym, ap, subst, ◌∙◌, append_assoc, append-nil, length-append, length-drop}
 use Rattle.std.specs.List.{concat}
 use Rattle.packet_text.proofs.StandingLines.{fresh_stands as fresh_lines_stand}
-use Rattle.otn_ports.specs.Views.{InView}
+use Rattle.port_base.specs.Views.{InView}
 use Rattle.frame_overhead.specs.TwoBefore.{Kept, HasSent, parity_due, or_zero}
 use Rattle.gfp_frames.specs.GfpText.{stream_frames, text_of}
 use Rattle.packet_text.specs.LinesStand.{LinesView, LinesStand, fresh_lines}

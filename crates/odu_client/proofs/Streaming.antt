@@ -2,7 +2,7 @@
 use Rattle.std.proofs.Common.{◌≡◌, ◌≢◌, ◌≤◌, ◌+◌, ℕ, zero, suc, Bool, if◌then◌else◌, List, [], ◌∷◌, ◌++◌, length, take, arith, refl, sym, ap, subst, ◌∙◌, append_assoc, append-nil, length-append}
 use Rattle.std.specs.Prelude.{replicate, Option}
 use Rattle.std.proofs.Math.Seq.{take-append_seam, take-length}
-use Rattle.otn_ports.specs.Views.{InView}
+use Rattle.port_base.specs.Views.{InView}
 use Rattle.frame_geometry.specs.PayloadParity.{payload_parity_of}
 use Rattle.gfp_frames.specs.Area.{client_area}
 use Rattle.gfp_frames.specs.GfpText.{Frame, Idle, Client, text_of, stream_frames}

@@ -4,7 +4,7 @@ use Rattle.std.specs.Prelude.{option_map}
 use Rattle.std.specs.List.{concat}
 use Rattle.std.proofs.Math.Seq.{take-append_seam, drop-append_seam}
 use Rattle.std.proofs.lemmas.Bool.Decides.{nat_tests}
-use Rattle.otn_ports.specs.Views.{InView}
+use Rattle.port_base.specs.Views.{InView}
 use Rattle.gfp_frames.specs.GfpText.{stream_frames, text_of, gfp_text}
 use Rattle.gfp_frames.proofs.Streams.{given_is_stream}
 use Rattle.packet_text.specs.LinesStand.{LinesView, MayBe, Told, GoesOnWith, HasBad, asked_for, read_short, ReadAsNeeded}

@@ -1,7 +1,7 @@
 -- API: how a client's frames are made of its text.
 use Rattle.std.specs.Prelude.{◌≡◌, ◌≢◌, ◌<◌, ◌≤◌, ℕ, ◌+◌, ◌*◌, ◌%◌, Bool, true, false, List, [], ◌∷◌, ◌++◌, length}
 use Rattle.std.specs.List.{concat}
-use Rattle.otn_ports.specs.Views.{InView}
+use Rattle.port_base.specs.Views.{InView}
 use Rattle.frame_overhead.specs.TwoBefore.{Kept, HasSent}
 use Rattle.gfp_frames.specs.GfpText.{stream_frames}
 use Rattle.gfp_frames.specs.Maker.{MakerState, HasMade}

@@ -1,7 +1,7 @@
 // The frames of a client out of its text.
 ghost use Rattle.std.specs.Prelude.{◌≡◌, ◌≢◌, ◌<◌, ◌≤◌, ◌+◌, ◌⊎◌, ℕ, List, [], ◌∷◌, ◌++◌, true, false, length, take, drop, IfOk, Option, option_map};
-ghost use Rattle.otn_ports.specs.InPlace.{in_view};
-ghost use Rattle.otn_ports.specs.Views.{InView};
+ghost use Rattle.port_base.specs.InPlace.{in_view};
+ghost use Rattle.port_base.specs.Views.{InView};
 ghost use Rattle.packet_text.specs.LinesStand.{lines_view, fresh_lines};
 ghost use Rattle.otn_base.specs.Counts.{saturated};
 ghost use Rattle.packet_text.specs.PacketText.{packets_of};
@@ -20,8 +20,8 @@ use frame_geometry::Frame;
 use frame_overhead::payload_parity;
 use otn_base::limits::{CLIENT_COLUMNS, CLIENT_FRAME_BYTES};
 use otn_base::{Memory, Trace, copy_front};
-use otn_ports::{InPlaceOf, Source};
 use packet_text::{Line, PacketLines};
+use port_base::{InPlaceOf, Source};
 use std::alloc::Global;
 use std::marker::Model;
 

@@ -1,8 +1,8 @@
 // The payload of a client's frames: the packets of a text as a stream of GFP frames.
 ghost use Rattle.std.specs.Prelude.{◌≡◌, ◌≢◌, ◌≤◌, ℕ, List, [], ◌∷◌, ◌++◌, true, false, length, take, IfOk, IfSome};
 ghost use Rattle.otn_base.specs.declared.limits.TheConstants.{CLIENT_PAYLOAD_BYTES};
-ghost use Rattle.otn_ports.specs.InPlace.{in_view};
-ghost use Rattle.otn_ports.specs.Views.{InView};
+ghost use Rattle.port_base.specs.InPlace.{in_view};
+ghost use Rattle.port_base.specs.Views.{InView};
 ghost use Rattle.packet_text.specs.LinesStand.{LinesView, lines_view};
 ghost use Rattle.odu_client.specs.AlignedRuns.{payload_of};
 ghost use Rattle.odu_client.specs.Framing.{StreamState, StreamMade, TextStands};
@@ -13,8 +13,8 @@ use frame_geometry::Frame;
 use gfp_frames::GfpMaker;
 use otn_base::limits::CLIENT_COLUMNS;
 use otn_base::{Memory, copy_front};
-use otn_ports::{InPlaceOf, Source};
 use packet_text::{Line, PacketLines};
+use port_base::{InPlaceOf, Source};
 use std::alloc::Global;
 use std::marker::Model;
 

@@ -1,7 +1,7 @@
 -- What a command answers for, said of the bytes that a call was handed.
 use Rattle.std.proofs.Common.{◌≡◌, ◌↔◌, ℕ, Bool, false, true, List, [], Some, ap, ◌∙◌, subst}
-use Rattle.otn_ports.specs.PortViews.{SourceView, SinkView}
-use Rattle.otn_ports.specs.Views.{BaysView}
+use Rattle.port_base.specs.PortViews.{SourceView, SinkView}
+use Rattle.port_base.specs.Views.{BaysView}
 use Rattle.line_tool.specs.AnswerWords.{IsRefusal}
 use Rattle.line_tool.specs.Answers.{Answers, LeavesBays}
 use Rattle.line_tool.specs.Words.{IsForm, IsNoForm}

@@ -6,11 +6,11 @@ use Rattle.std.proofs.lemmas.Bool.Decides.{nat_tests}
 use Rattle.std.proofs.lemmas.Option.{slice_get_read}
 use Rattle.otn_base.specs.LineSlots.{LineSlots}
 use Rattle.otn_base.specs.declared.kind.PortName.TheVariants as port
-use Rattle.otn_ports.specs.Bytes.{HasFailed}
-use Rattle.otn_ports.specs.Given.{HadToGive, IsWritten, Lives, written_between}
-use Rattle.otn_ports.specs.PortViews.{SourceView, SinkView}
-use Rattle.otn_ports.specs.Retiring.{retired_in_as}
-use Rattle.otn_ports.specs.Views.{State, Empty, Live, Dead, InView, OutView, BaysView, line_in_at, line_out_at, client_in_at, client_out_at}
+use Rattle.port_base.specs.Bytes.{HasFailed}
+use Rattle.port_base.specs.Given.{HadToGive, IsWritten, Lives, written_between}
+use Rattle.port_base.specs.PortViews.{SourceView, SinkView}
+use Rattle.port_base.specs.Retiring.{retired_in_as}
+use Rattle.port_base.specs.Views.{State, Empty, Live, Dead, InView, OutView, BaysView, line_in_at, line_out_at, client_in_at, client_out_at}
 use Rattle.line_side.specs.LineForm.{through_mask}
 use Rattle.odu_client.specs.ClientInput.{input_given}
 use Rattle.plan_file.specs.Answer.{plan_of_text}

@@ -1,10 +1,10 @@
 -- Inputs over bytes in memory never fail.
 use Rattle.std.proofs.Common.{◌≡◌, ℕ, zero, suc, List, [], ◌∷◌, get_or, map, refl}
-use Rattle.otn_ports.specs.InPlace.{in_view}
-use Rattle.otn_ports.specs.Views.{no_input}
-use Rattle.otn_ports.specs.declared.bays.Rack.{Rack}
-use Rattle.otn_ports.specs.declared.in_place.InPlaceOf.{InPlaceOf}
-use Rattle.otn_ports.specs.declared.in_place.InPlaceOf.TheVariants as input
+use Rattle.port_base.specs.InPlace.{in_view}
+use Rattle.port_base.specs.Views.{no_input}
+use Rattle.port_base.specs.declared.bays.Rack.{Rack}
+use Rattle.port_base.specs.declared.in_place.InPlaceOf.{InPlaceOf}
+use Rattle.port_base.specs.declared.in_place.InPlaceOf.TheVariants as input
 use Rattle.otn_c.specs.Places.{InputsAreWell}
 use Rattle.otn_c.specs.contracts.slice_source.SliceSourceSource.TheImpl as source
 use Rattle.otn_c.specs.declared.growing_sink.GrowingSink.{GrowingSink}

@@ -3,18 +3,18 @@ use Rattle.std.proofs.Common.{◌≡◌, ◌≢◌, ◌≤◌, ◌<◌, ◌+◌,
 use Rattle.std.specs.Prelude.{slice_get}
 use Rattle.std.proofs.lemmas.Bool.{cases_lt}
 use Rattle.std.proofs.lemmas.Option.{slice_get-get_or}
-use Rattle.otn_ports.specs.InPlace.{in_view}
-use Rattle.otn_ports.specs.OutPlace.{out_view}
-use Rattle.otn_ports.specs.Racks.{bays_view, with_line_in, with_line_out, with_client_in, with_client_out}
-use Rattle.otn_ports.specs.Views.{BaysView, no_input, no_output, line_in_at, line_out_at, client_in_at, client_out_at}
+use Rattle.port_base.specs.InPlace.{in_view}
+use Rattle.port_base.specs.OutPlace.{out_view}
+use Rattle.port_base.specs.Racks.{bays_view, with_line_in, with_line_out, with_client_in, with_client_out}
+use Rattle.port_base.specs.Views.{BaysView, no_input, no_output, line_in_at, line_out_at, client_in_at, client_out_at}
 use Rattle.otn_c.specs.contracts.slice_source.SliceSourceSource.TheImpl as source
-use Rattle.otn_ports.specs.declared.bays.Rack.{Rack}
-use Rattle.otn_ports.specs.declared.in_place.InPlaceOf.{InPlaceOf}
-use Rattle.otn_ports.specs.declared.in_place.InPlaceOf.TheVariants as input
+use Rattle.port_base.specs.declared.bays.Rack.{Rack}
+use Rattle.port_base.specs.declared.in_place.InPlaceOf.{InPlaceOf}
+use Rattle.port_base.specs.declared.in_place.InPlaceOf.TheVariants as input
 use Rattle.otn_c.specs.declared.slice_source.SliceSource.{SliceSource}
-use Rattle.otn_ports.specs.declared.out_place.OutPlaceOf.{OutPlaceOf}
-use Rattle.otn_ports.specs.declared.out_place.OutPlaceOf.TheVariants as output
-use Rattle.otn_ports.proofs.BaysLaws.{line_in_set, only_line_in, line_out_set, only_line_out, client_in_set, only_client_in, client_out_set, only_client_out}
+use Rattle.port_base.specs.declared.out_place.OutPlaceOf.{OutPlaceOf}
+use Rattle.port_base.specs.declared.out_place.OutPlaceOf.TheVariants as output
+use Rattle.port_base.proofs.BaysLaws.{line_in_set, only_line_in, line_out_set, only_line_out, client_in_set, only_client_in, client_out_set, only_client_out}
 use Rattle.line_tool.specs.TrialRuns.{waiting}
 use Rattle.otn_c.specs.Blocks.{IsNoPart}
 use Rattle.otn_c.specs.Places.{OpensWith, HasNoPart, LinesUpTo, ClientsUpTo, input_at}

@@ -1,8 +1,8 @@
 -- What is handed out, from what was put into the block.
 use Rattle.std.proofs.Common.{◌≡◌, ◌≤◌, ◌<◌, ◌⊎◌, ℕ, List, Some, length, take, refl, sym, ap, ◌∙◌, subst, arith}
 use Rattle.std.specs.Str.{IsUtf8}
-use Rattle.otn_ports.specs.PortViews.{SinkView}
-use Rattle.otn_ports.specs.Views.{BaysView}
+use Rattle.port_base.specs.PortViews.{SinkView}
+use Rattle.port_base.specs.Views.{BaysView}
 use Rattle.line_tool.specs.Codes.{code_of}
 use Rattle.command_base.specs.declared.status.Status.{Status}
 use Rattle.command_base.specs.declared.status.Status.TheVariants as status

@@ -1,7 +1,7 @@
 -- What `slot` and `pull` write of a line that was handed in.
 use Rattle.std.proofs.Common.{◌≡◌, ◌≢◌, ◌<◌, ◌⊎◌, inl, inr, ℕ, zero, suc, List, [], Option, Some, None, get_or, take, refl, sym, ap, ◌∙◌, subst, arith}
-use Rattle.otn_ports.specs.Given.{HadToGive, given_between}
-use Rattle.otn_ports.specs.Views.{State, Empty, Live, Dead}
+use Rattle.port_base.specs.Given.{HadToGive, given_between}
+use Rattle.port_base.specs.Views.{State, Empty, Live, Dead}
 use Rattle.line_tool.specs.AnswerWords.{Reports}
 use Rattle.line_tool.specs.Answers.{Answers, LineAnswers, PullRan, SlotRan}
 use Rattle.line_tool.specs.Codes.{code_of}

@@ -1,7 +1,7 @@
 -- Parts of a block that are put one behind the other.
 use Rattle.std.proofs.Common.{◌≡◌, ◌≢◌, ◌≤◌, ◌<◌, ◌+◌, ◌-◌, ◌++◌, ℕ, zero, suc, List, length, set, take, drop, refl, sym, ap, ◌∙◌, subst, arith}
 use Rattle.std.proofs.lemmas.List.{take-take, drop-take, length-take-le, drop_at, take_at, get_or-set_same, get_or-set_other}
-use Rattle.otn_ports.specs.Views.{BaysView}
+use Rattle.port_base.specs.Views.{BaysView}
 use Rattle.otn_c.proofs.Filling.{extended}
 use Rattle.otn_c.specs.Blocks.{start_of, end_of, part_of}
 use Rattle.otn_c.specs.Places.{HasSize, IsKept, IsPut, OutUpTo, output_at}

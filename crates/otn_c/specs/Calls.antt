@@ -2,8 +2,8 @@
 use Rattle.std.specs.Prelude.{◌≡◌, ◌≢◌, ◌<◌, ◌≤◌, ◌-◌, ◌⊎◌, ◌↔◌, ℕ, false, true, List, [], Ok, Err, Some, get_or, length, take}
 use Rattle.std.specs.Str.{IsUtf8}
 use Rattle.otn_base.specs.LineSlots.{LineSlots}
-use Rattle.otn_ports.specs.PortViews.{SourceView, SinkView}
-use Rattle.otn_ports.specs.Views.{BaysView}
+use Rattle.port_base.specs.PortViews.{SourceView, SinkView}
+use Rattle.port_base.specs.Views.{BaysView}
 use Rattle.plan_file.specs.Answer.{plan_of_text}
 use Rattle.plan_file.specs.Code as rule
 use Rattle.plan_file.specs.declared.error.NoPlan.TheVariants.{Refused}

@@ -1,6 +1,6 @@
 -- Believed: the places of a call: what its inputs hold before it, and what is seen of its outputs after it.
 use Rattle.std.specs.Prelude.{◌≡◌, ◌≢◌, ◌<◌, ◌+◌, ◌-◌, ◌≤◌, ◌++◌, ℕ, zero, suc, if◌then◌else◌, nat_lt, List, get_or, length, take, Some}
-use Rattle.otn_ports.specs.Views.{Empty, InView, OutView, BaysView, no_input, line_in_at, line_out_at, client_in_at, client_out_at}
+use Rattle.port_base.specs.Views.{Empty, InView, OutView, BaysView, no_input, line_in_at, line_out_at, client_in_at, client_out_at}
 use Rattle.line_tool.specs.TrialRuns.{holding, waiting}
 use Rattle.otn_c.specs.Blocks.{IsNoPart, part_of, start_of, end_of}
 

@@ -1,14 +1,14 @@
 // The words of a call, answered over places and a report in memory.
 ghost use Rattle.std.specs.Prelude.{◌≡◌};
-ghost use Rattle.otn_ports.specs.PortViews.{sink_view};
-ghost use Rattle.otn_ports.specs.Racks.{bays_view};
+ghost use Rattle.port_base.specs.PortViews.{sink_view};
+ghost use Rattle.port_base.specs.Racks.{bays_view};
 ghost use Rattle.line_tool.specs.Words.{texts};
 ghost use Rattle.otn_c.specs.Calls.{IsAnswered};
 
 use crate::places::Places;
 use crate::{GrowingSink, SliceSource};
 use line_tool::{NumberChooser, Status, order_of, run};
-use otn_ports::{Chooser, FirstReady, Sink, Source};
+use port_base::{Chooser, FirstReady, Sink, Source};
 use std::alloc::Global;
 
 /// Answers the words over these places, with the plan of these bytes, in the order that the words say.

@@ -1,7 +1,7 @@
 // A call of the library.
 ghost use Rattle.std.specs.Prelude.{◌≡◌, ◌≢◌, ◌≤◌, ◌⊎◌, IfOk, length};
-ghost use Rattle.otn_ports.specs.PortViews.{sink_view};
-ghost use Rattle.otn_ports.specs.Racks.{bays_view};
+ghost use Rattle.port_base.specs.PortViews.{sink_view};
+ghost use Rattle.port_base.specs.Racks.{bays_view};
 ghost use Rattle.otn_c.specs.Awaiting.{AreOutputs};
 ghost use Rattle.otn_c.specs.Calls.{CallEnds, Called, IsHandedOut, IsNoCall, Tells, no_call, no_memory};
 
@@ -15,7 +15,7 @@ use crate::words::words_of;
 use crate::{GrowingSink, SliceSource};
 use line_tool::Status;
 use otn_base::Memory;
-use otn_ports::{Sink, Source};
+use port_base::{Sink, Source};
 use std::alloc::Global;
 
 // The answer where there was no memory.

@@ -1,9 +1,9 @@
 // A sink in memory that grows.
 ghost use Rattle.std.specs.Prelude.{◌≡◌, ◌≢◌, ◌≤◌, ◌++◌, [], true, Some, IfOk, OnOk, OnErr, if◌then◌else◌, is_ok, length, take};
-ghost use Rattle.otn_ports.specs.Bytes.{sent, faults_after, HasFailed};
-ghost use Rattle.otn_ports.specs.Writes.{IsWriting};
+ghost use Rattle.port_base.specs.Bytes.{sent, faults_after, HasFailed};
+ghost use Rattle.port_base.specs.Writes.{IsWriting};
 
-use otn_ports::{Failed, Sink, Written};
+use port_base::{Failed, Sink, Written};
 use std::alloc::Global;
 use std::cell::RefCell;
 use std::rc::Rc;

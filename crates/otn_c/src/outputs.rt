@@ -1,8 +1,8 @@
 // What the outputs of a call got, put into a block.
 ghost use Rattle.std.specs.Prelude.{◌≡◌, ◌<◌, IfSome, length};
-ghost use Rattle.otn_ports.specs.OutPlace.{out_view};
-ghost use Rattle.otn_ports.specs.Racks.{bays_view};
-ghost use Rattle.otn_ports.specs.Views.{Empty};
+ghost use Rattle.port_base.specs.OutPlace.{out_view};
+ghost use Rattle.port_base.specs.Racks.{bays_view};
+ghost use Rattle.port_base.specs.Views.{Empty};
 ghost use Rattle.otn_c.specs.Awaiting.{AreOutputs};
 ghost use Rattle.otn_c.specs.Places.{IsPut, IsPutOf, OutUpTo, output_at};
 
@@ -11,7 +11,7 @@ use crate::blocks::put;
 use crate::places::Places;
 use crate::{GrowingSink, SliceSource};
 use otn_base::limits::{CLIENTS, LINES};
-use otn_ports::{OutPlaceOf, Sink, Source};
+use port_base::{OutPlaceOf, Sink, Source};
 
 /// Inputs, and outputs, of a call.
 pub(crate) const PORTS: usize = LINES + CLIENTS;

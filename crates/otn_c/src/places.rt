@@ -1,8 +1,8 @@
 // The places of a call, in memory.
 ghost use Rattle.std.specs.Prelude.{◌≡◌, ◌<◌, ℕ, IfOk, MatchOption, OnSome, length};
-ghost use Rattle.otn_ports.specs.InPlace.{in_view};
-ghost use Rattle.otn_ports.specs.OutPlace.{out_view};
-ghost use Rattle.otn_ports.specs.Racks.{bays_view};
+ghost use Rattle.port_base.specs.InPlace.{in_view};
+ghost use Rattle.port_base.specs.OutPlace.{out_view};
+ghost use Rattle.port_base.specs.Racks.{bays_view};
 ghost use Rattle.line_tool.specs.TrialRuns.{waiting};
 ghost use Rattle.otn_c.specs.Awaiting.{AreOutputs};
 ghost use Rattle.otn_c.specs.Blocks.{IsNoPart};
@@ -13,7 +13,7 @@ use crate::blocks::part;
 use crate::{GrowingSink, SliceSource};
 use otn_base::Memory;
 use otn_base::limits::{CLIENTS, LINES};
-use otn_ports::{InPlaceOf, OutPlaceOf, Rack, Sink, Source};
+use port_base::{InPlaceOf, OutPlaceOf, Rack, Sink, Source};
 use std::alloc::Global;
 
 /// Places in memory, whose outputs grow.

@@ -1,9 +1,9 @@
 // A source over bytes that are lent.
 ghost use Rattle.std.specs.Prelude.{◌≡◌, ◌<◌, ◌≤◌, Some, Ok, false, IfOk, OnOk, OnErr, length, min};
-ghost use Rattle.otn_ports.specs.Bytes.{before, read_by, HasFailed};
-ghost use Rattle.otn_ports.specs.Reads.{HasEnded, ended_after};
+ghost use Rattle.port_base.specs.Bytes.{before, read_by, HasFailed};
+ghost use Rattle.port_base.specs.Reads.{HasEnded, ended_after};
 
-use otn_ports::{Failed, Source};
+use port_base::{Failed, Source};
 
 /// Bytes that are lent: it copies none but into what it is asked to fill. It tells them, and never fails.
 #[derive(Drop)]

@@ -1,12 +1,2 @@
 pub mod AheadLaws
-pub mod BaysLaws
-pub mod FrontLaws
-pub mod GivenLaws
-pub mod Lists
-pub mod OneOutPlace
-pub mod PlacesLaws
-pub mod PortLaws
-pub mod SameRack
-pub mod SentLaws
 pub mod SpoilLaws
-pub mod TakenTwice

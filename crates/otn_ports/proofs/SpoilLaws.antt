@@ -5,9 +5,9 @@ use Rattle.std.proofs.lemmas.List.{ext_get_or, get_or-set_same, get_or-set_other
 use Rattle.std.proofs.lemmas.Bool.Decides.{nat_tests}
 use Rattle.std.proofs.lemmas.Grind.{common_steps}
 use Rattle.std.specs.Option.{option_map}
-use Rattle.otn_ports.proofs.GivenLaws.{raised-twice}
-use Rattle.otn_ports.proofs.Lists.{take_all}
-use Rattle.otn_ports.specs.Bytes.{before, raised}
+use Rattle.port_base.proofs.GivenLaws.{raised-twice}
+use Rattle.port_base.proofs.Lists.{take_all}
+use Rattle.port_base.specs.Bytes.{before, raised}
 use Rattle.otn_ports.specs.Spoiling.{mask_at, rises_from, spoiled}
 
 -- what rising pairs say of the first one

@@ -1,10 +1,10 @@
 -- API: ports in memory that fail at listed calls.
 use Rattle.std.specs.Prelude.{◌≡◌, ℕ, Bool, true, false, ◌||◌, nat_eq, min, List, [], ◌∷◌, length, Result, Ok, IsErr}
-use Rattle.otn_ports.specs.Memory.{memory_left, memory_ended, memory_got, memory_room, TakesWhatFits}
+use Rattle.port_base.specs.Memory.{memory_left, memory_ended, memory_got, memory_room, TakesWhatFits}
 use Rattle.otn_ports.specs.declared.listed_calls.ListedCalls.{ListedCalls}
 use Rattle.otn_ports.specs.declared.listed_sink.ListedSink.{ListedSink}
 use Rattle.otn_ports.specs.declared.listed_source.ListedSource.{ListedSource}
-use Rattle.otn_ports.specs.declared.source.Failed.{Failed}
+use Rattle.port_base.specs.declared.source.Failed.{Failed}
 
 -- whether the number stands in the list
 abbrev pub is_listed : List ℕ → ℕ → Bool

@@ -2,7 +2,7 @@
 use Rattle.std.specs.Prelude.{◌≡◌, ◌≢◌, ◌<◌, ◌≤◌, ◌-◌, ℕ, ⊤, List, [], ◌∷◌, take, drop, Option, None, Some, IfSome, Result, IsErr, Vec, vec_len}
 use Rattle.std.specs.declared.io.ErrorKind.{ErrorKind}
 use Rattle.std.specs.declared.io.ErrorKind.TheVariants.{Interrupted}
-use Rattle.otn_ports.specs.declared.source.Failed.{Failed}
+use Rattle.port_base.specs.declared.source.Failed.{Failed}
 
 -- the bytes at hand, and why its reader refused to give more, where it did and no read has answered so yet
 pub record ReadAhead : Type 0 where

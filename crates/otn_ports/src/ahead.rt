@@ -2,13 +2,13 @@
 ghost use Rattle.std.specs.Prelude.{◌≡◌, ◌<◌, ◌≤◌, ◌++◌, [], false, true, None, IfOk, IfErr, IfSome, IsSome, OnErr, length, drop, take, min, vec_len};
 ghost use Rattle.std.specs.Io.KnownBytes.{IsAtEnd, Keeps, ReadConsumes, prepend_known};
 ghost use Rattle.otn_ports.specs.Adapters.{IsFault};
-ghost use Rattle.otn_ports.specs.Fronts.{AreFirst};
+ghost use Rattle.port_base.specs.Fronts.{AreFirst};
 ghost use Rattle.otn_ports.specs.ReadAhead.{ReadAhead, nothing_ahead, IsRefusal, RefusalAfter};
 
-use crate::Failed;
 use crate::system::{read_some, refuse};
 use otn_base::SharedBytes;
 use otn_base::limits::LINE_FRAME_BYTES;
+use port_base::Failed;
 use std::alloc::{AllocError, Global};
 use std::io::{ErrorKind, Read};
 use std::marker::Model;

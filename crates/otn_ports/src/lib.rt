@@ -1,74 +1,34 @@
-//! Ports that may fail at any call, the places that hold them, and the bays of all places.
+//! Ports over the system's files and output, and ports that fail where a test wants it; with all of `port_base`.
 //!
-//! - `source`, `sink`: what a port is, with its meanings; `Failed`.
-//! - `mem_source`, `mem_sink`: ports in memory.
-//! - `listed_source`, `listed_sink`: ports in memory that fail at listed calls, counted by `listed_calls`.
-//! - `spoiled_source`: a source that spoils bytes of another by `masks` of their places.
 //! - `reader_source`, `writer_sink`: ports over the system's files and output, by the calls in `system`;
 //!   `system_answer`: what an answer of the system comes to.
 //! - `ahead`: what a source over a reader has read ahead.
-//! - `in_port`, `out_port`: a port behind a box, or one in memory.
-//! - `in_place`, `out_place`: a place with its port, which reads and writes whole slices; `sealed`: the port of a dead
-//!   one.
-//! - `dead_places`: whether a place is dead.
-//! - `asking`: a place is asked for one byte more.
-//! - `fill`, `drain`: a whole read of a source, and a whole write to a sink, that stand in no place.
-//! - `bays`: all places of a device.
-//! - `chooser`: what settles a free choice.
-//! - `ended`: how a command over places ended.
+//! - `listed_source`, `listed_sink`: ports in memory that fail at listed calls, counted by `listed_calls`.
+//! - `spoiled_source`: a source that spoils bytes of another by `masks` of their places.
 //!
-//! One event goes by these words. A call of a port *fails*: it answers `Failed`, and the port's
-//! count of faults rose in it, or stands at its end. A whole read or write in which a call failed is
-//! *lost*: it answers `Lost`. A live place whose read or write is lost *dies* in it: it is *dead*
-//! from then on, and its port, sealed, is asked nothing more.
+//! Ports, places and bays themselves stand in `port_base`. Libraries stand on that alone, so that a change of a port
+//! over files is no change of theirs.
 #![tactic(auto)]
 
 mod ahead;
-mod asking;
-mod bays;
-mod chooser;
-mod dead_places;
-mod drain;
-mod ended;
-mod fill;
-mod in_place;
-mod in_port;
 mod listed_calls;
 mod listed_sink;
 mod listed_source;
 mod masks;
-mod mem_sink;
-mod mem_source;
-mod out_place;
-mod out_port;
 mod reader_source;
-mod sealed;
-mod sink;
-mod source;
 mod spoiled_source;
 mod system;
 mod system_answer;
 mod writer_sink;
 
 pub use ahead::ReadBlock;
-pub use asking::ask_byte;
-pub use bays::{Bays, Rack};
-pub use chooser::{Chooser, FirstReady};
-pub use dead_places::{is_dead_in, is_dead_out};
-pub use drain::{Written, write_counted, write_whole};
-pub use ended::Ended;
-pub use fill::read_whole;
-pub use in_place::{InPlace, InPlaceOf, Reading};
-pub use in_port::InPort;
 pub use listed_sink::ListedSink;
 pub use listed_source::ListedSource;
-pub use mem_sink::MemSink;
-pub use mem_source::MemSource;
-pub use out_place::{OutPlace, OutPlaceOf};
-pub use out_port::OutPort;
+pub use port_base::{
+    Bays, Chooser, Ended, Failed, FirstReady, InPlace, InPlaceOf, InPort, MemSink, MemSource,
+    OutPlace, OutPlaceOf, OutPort, Rack, Reading, Sealed, Sink, Source, Written, ask_byte,
+    is_dead_in, is_dead_out, read_whole, write_counted, write_whole,
+};
 pub use reader_source::{FileSource, ReaderSource};
-pub use sealed::Sealed;
-pub use sink::Sink;
-pub use source::{Failed, Source};
 pub use spoiled_source::SpoiledSource;
 pub use writer_sink::{FileSink, StdoutSink, WriterSink};

@@ -1,6 +1,6 @@
 // The calls of a port, counted, some of which are to fail.
 ghost use Rattle.std.specs.Prelude.{◌≡◌};
-ghost use Rattle.otn_ports.specs.Bytes.{raised};
+ghost use Rattle.port_base.specs.Bytes.{raised};
 ghost use Rattle.otn_ports.specs.Listed.{is_listed, calls_made, calls_failing};
 
 /// The calls of a port so far, and the numbers, from 1, of those that are to fail.

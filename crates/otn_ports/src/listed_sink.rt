@@ -1,11 +1,11 @@
 // A sink in memory that fails at listed calls, and where it has no room.
 ghost use Rattle.std.specs.Prelude.{◌≡◌, ◌<◌, ◌≤◌, ◌++◌, [], true, Some, IfOk, OnErr, IsSomeAnd, length};
-ghost use Rattle.otn_ports.specs.Bytes.{sent, raised, faults_after, HasFailed};
+ghost use Rattle.port_base.specs.Bytes.{sent, raised, faults_after, HasFailed};
 
 use crate::listed_calls::ListedCalls;
 use crate::system::count;
-use crate::{Failed, MemSink, Sink};
 use otn_base::Memory;
+use port_base::{Failed, MemSink, Sink};
 use std::alloc::Global;
 
 /// Keeps the bytes that it gets, as many as it has room for. It fails exactly at the calls whose

@@ -1,10 +1,10 @@
 // A source in memory that fails at listed calls.
 ghost use Rattle.std.specs.Prelude.{◌≡◌, ◌<◌, ◌≤◌, Some, Ok, false, OnErr, length};
-ghost use Rattle.otn_ports.specs.Bytes.{before, read_by, raised, faults_after, HasFailed};
-ghost use Rattle.otn_ports.specs.Reads.{HasEnded, ended_after};
+ghost use Rattle.port_base.specs.Bytes.{before, read_by, raised, faults_after, HasFailed};
+ghost use Rattle.port_base.specs.Reads.{HasEnded, ended_after};
 
 use crate::listed_calls::ListedCalls;
-use crate::{Failed, MemSource, Source};
+use port_base::{Failed, MemSource, Source};
 
 /// Bytes in memory, of which it gives at most so many a call. It tells them, and fails exactly at
 /// the calls whose numbers, from 1, are listed: these take nothing.

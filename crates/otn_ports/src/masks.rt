@@ -1,6 +1,6 @@
 // Masks of places, and bytes that are spoiled by them.
 ghost use Rattle.std.specs.Prelude.{◌≡◌, ◌≤◌, ℕ, ◌+◌, true, length, drop};
-ghost use Rattle.otn_ports.specs.Bytes.{raised};
+ghost use Rattle.port_base.specs.Bytes.{raised};
 ghost use Rattle.otn_ports.specs.Spoiling.{mask_at, rises_from, spoiled};
 
 /// Spoils bytes that stand from a place on, and says how many pairs are used up by that.

@@ -1,12 +1,12 @@
 // A source over a reader of the system, such as a file.
 ghost use Rattle.std.specs.Prelude.{◌≡◌, ◌<◌, ◌≤◌, false, true, None, Ok, OnErr, IfOk, IsErr, IsSome, is_some, length, take};
-ghost use Rattle.otn_ports.specs.Bytes.{faults_after, HasFailed};
-ghost use Rattle.otn_ports.specs.Reads.{ended_after};
+ghost use Rattle.port_base.specs.Bytes.{faults_after, HasFailed};
+ghost use Rattle.port_base.specs.Reads.{ended_after};
 
 use crate::ahead::{Ahead, ReadBlock};
 use crate::system::{count, refuse};
-use crate::{Failed, Source};
 use otn_base::SharedBytes;
+use port_base::{Failed, Source};
 use std::alloc::Global;
 use std::fs::File;
 use std::io::{ErrorKind, Read};

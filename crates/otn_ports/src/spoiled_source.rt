@@ -1,12 +1,12 @@
 // A source that spoils some of the bytes of another.
 ghost use Rattle.std.specs.Prelude.{◌≡◌, ◌<◌, ◌≤◌, true, Ok, IfOk, OnOk, OnErr, length, drop, vec_len};
 ghost use Rattle.std.specs.Option.{option_map};
-ghost use Rattle.otn_ports.specs.Bytes.{before, read_by, HasFailed};
-ghost use Rattle.otn_ports.specs.Reads.{HasEnded, ended_after};
+ghost use Rattle.port_base.specs.Bytes.{before, read_by, HasFailed};
+ghost use Rattle.port_base.specs.Reads.{HasEnded, ended_after};
 ghost use Rattle.otn_ports.specs.Spoiling.{rises_from, spoiled};
 
 use crate::masks::spoil;
-use crate::{Failed, Source};
+use port_base::{Failed, Source};
 
 /// Gives the bytes of a source, of which each at a listed place, counted from its first byte, is
 /// XORed with its mask. It fails only where that source does.

@@ -2,10 +2,10 @@
 ghost use Rattle.std.specs.Prelude.{◌≡◌, ◌≢◌, ◌<◌, ◌≤◌, Some, IfOk, OnErr, length};
 ghost use Rattle.std.specs.Io.KnownBytes.{ReadConsumes, WriteAppends};
 ghost use Rattle.otn_ports.specs.Adapters.{IsFault};
-ghost use Rattle.otn_ports.specs.Bytes.{faults_after, HasFailed};
+ghost use Rattle.port_base.specs.Bytes.{faults_after, HasFailed};
 
-use crate::Failed;
 use crate::system_answer::{Outcome, read_outcome, write_outcome};
+use port_base::Failed;
 use std::io::{ErrorKind, Read, Write};
 
 /// A refusal that is a fault: its kind is kept. That a signal interrupted the call is none.

@@ -1,10 +1,10 @@
 // A sink over a writer of the system, such as a file or the standard output.
 ghost use Rattle.std.specs.Prelude.{◌≡◌, ◌≢◌, ◌<◌, ◌≤◌, false, true, None, Ok, OnErr, IfOk, IsErr, is_some, length, take};
-ghost use Rattle.otn_ports.specs.Bytes.{faults_after, HasFailed};
-ghost use Rattle.otn_ports.specs.Writes.{IsWriting};
+ghost use Rattle.port_base.specs.Bytes.{faults_after, HasFailed};
+ghost use Rattle.port_base.specs.Writes.{IsWriting};
 
 use crate::system::{count, refuse, write_some};
-use crate::{Failed, Sink, Written};
+use port_base::{Failed, Sink, Written};
 use std::fs::File;
 use std::io::{ErrorKind, Stdout, Write};
 

@@ -1,10 +1,10 @@
 -- API: the answer of the program, over the plan's source, the line and the report.
 use Rattle.std.specs.Prelude.{◌≡◌, ◌≢◌, map, Result, Ok, Err}
 use Rattle.otn_base.specs.declared.memory.Memory.{Memory as NoMemory}
-use Rattle.otn_ports.specs.PortViews.{SinkView, SourceView}
-use Rattle.otn_ports.specs.Views.{InView}
-use Rattle.otn_ports.specs.declared.ended.Ended.{Ended}
-use Rattle.otn_ports.specs.declared.ended.Ended.TheVariants.{Memory}
+use Rattle.port_base.specs.PortViews.{SinkView, SourceView}
+use Rattle.port_base.specs.Views.{InView}
+use Rattle.port_base.specs.declared.ended.Ended.{Ended}
+use Rattle.port_base.specs.declared.ended.Ended.TheVariants.{Memory}
 use Rattle.command_base.specs.Ends.{line_status}
 use Rattle.command_base.specs.declared.status.Status.{Status}
 use Rattle.command_base.specs.declared.status.Status.TheVariants as status

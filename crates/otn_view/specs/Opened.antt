@@ -2,8 +2,8 @@
 use Rattle.std.specs.Prelude.{◌≡◌, Bool, false}
 use Rattle.std.specs.declared.fs.File.{File}
 use Rattle.otn_ports.specs.Adapters.{has_reader, reader_ended, reader_faults}
-use Rattle.otn_ports.specs.declared.in_place.InPlaceOf.{InPlaceOf}
-use Rattle.otn_ports.specs.declared.in_place.InPlaceOf.TheVariants.{Empty, Live, Dead}
+use Rattle.port_base.specs.declared.in_place.InPlaceOf.{InPlaceOf}
+use Rattle.port_base.specs.declared.in_place.InPlaceOf.TheVariants.{Empty, Live, Dead}
 use Rattle.otn_ports.specs.declared.reader_source.ReaderSource.{ReaderSource}
 
 -- it is live, and nothing was asked of it yet; it has a file, or none, so that each read fails

@@ -1,7 +1,7 @@
 // What was asked for, answered over a plan, a line and a report.
 ghost use Rattle.std.specs.Prelude.{◌≡◌};
-ghost use Rattle.otn_ports.specs.InPlace.{in_view};
-ghost use Rattle.otn_ports.specs.PortViews.{source_view, sink_view};
+ghost use Rattle.port_base.specs.InPlace.{in_view};
+ghost use Rattle.port_base.specs.PortViews.{source_view, sink_view};
 ghost use Rattle.otn_view.specs.Answers.{IsViewed, viewed_status};
 ghost use Rattle.otn_view.specs.Words.{AreOnLine};
 
@@ -9,8 +9,8 @@ use crate::words::Asked;
 use command_base::{Status, status_of};
 use line_view::write_view;
 use otn_base::Memory;
-use otn_ports::{InPlaceOf, Sink, Source};
 use plan_views::{Viewed, view_by_plan};
+use port_base::{InPlaceOf, Sink, Source};
 use std::alloc::Global;
 
 /// Writes the view that is asked for: of a line of the form that is given, or of the one that the plan says. The plan

@@ -2,8 +2,8 @@
 use Rattle.std.proofs.Common.{◌≡◌, ◌<◌, ◌≤◌, ◌+◌, ◌%◌, ◌⊎◌, inl, inr, ◌||◌, nat_lt, ℕ, Bool, true, false, List, [], ◌∷◌, ◌++◌, length, drop, None, arith, refl, sym, ap, ◌∙◌, length-append, append_assoc, append-nil}
 use Rattle.std.proofs.lemmas.Bool.Decides.{nat_tests}
 use Rattle.std.proofs.lemmas.List.{drop_at}
-use Rattle.otn_ports.specs.Views.{InView}
-use Rattle.otn_ports.proofs.GivenLaws.{gave_twice}
+use Rattle.port_base.specs.Views.{InView}
+use Rattle.port_base.proofs.GivenLaws.{gave_twice}
 use Rattle.packet_text.specs.TextLines.{has_lf, lines_of, full_lines, begun_line}
 use Rattle.packet_text.specs.PacketText.{line_gives, TextEnding, Ended, BadAt, Packets, packets_of, is_bad, shows_bad}
 use Rattle.packet_text.specs.LinesStand.{LinesView, GoesOn, ReadAsNeeded, HasBad}

@@ -1,8 +1,8 @@
 -- How a cutter goes on with a line, block by block, and cuts it.
 use Rattle.std.proofs.Common.{◌≡◌, ◌≢◌, ◌<◌, ◌≤◌, ◌+◌, ◌-◌, ◌%◌, inl, inr, ℕ, Bool, true, false, List, [], ◌∷◌, ◌++◌, length, take, drop, arith, refl, sym, ap, ◌∙◌, append_assoc, append-nil, length-append}
 use Rattle.std.proofs.lemmas.List.{drop-drop, drop-take}
-use Rattle.otn_ports.specs.Views.{InView}
-use Rattle.otn_ports.proofs.GivenLaws.{gave_none, gave_twice}
+use Rattle.port_base.specs.Views.{InView}
+use Rattle.port_base.proofs.GivenLaws.{gave_none, gave_twice}
 use Rattle.packet_text.specs.TextLines.{has_lf}
 use Rattle.packet_text.specs.Steps.Carrying.{Carried, NoneCarried}
 use Rattle.packet_text.specs.Cutting.{CutView}

@@ -1,7 +1,7 @@
 -- What the search for the next line that counts finds.
 use Rattle.std.proofs.Common.{◌≡◌, ◌≢◌, ◌<◌, ◌+◌, ◌%◌, ℕ, true, false, List, [], ◌∷◌, ◌++◌, length, None, arith, refl, sym, ap, ◌∙◌, length-append, append_assoc, append-nil}
-use Rattle.otn_ports.specs.Views.{InView}
-use Rattle.otn_ports.proofs.GivenLaws.{gave_twice}
+use Rattle.port_base.specs.Views.{InView}
+use Rattle.port_base.proofs.GivenLaws.{gave_twice}
 use Rattle.packet_text.specs.TextLines.{lines_of, full_lines, whole_blocks, text_of_dead}
 use Rattle.packet_text.specs.PacketText.{line_gives, behind, packets_behind, packets_of, shows_bad}
 use Rattle.packet_text.specs.LinesStand.{LinesView, Begins, HasBad, GoesOn, LinesStand, given_by}

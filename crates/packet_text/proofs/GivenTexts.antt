@@ -1,8 +1,8 @@
 -- What a place gave is among the texts that its lines may have.
 use Rattle.std.proofs.Common.{◌≡◌, ◌≢◌, ℕ, Bool, true, false, List, [], ◌++◌, Option, Some, refl, sym, ap, ◌∙◌, append_assoc, append-nil}
-use Rattle.otn_ports.specs.Views.{State, Empty, Live, Dead, InView}
-use Rattle.otn_ports.specs.Reads.{HasEnded}
-use Rattle.otn_ports.proofs.GivenLaws.{Beyond, given_of_gave, dead_not_live}
+use Rattle.port_base.specs.Views.{State, Empty, Live, Dead, InView}
+use Rattle.port_base.specs.Reads.{HasEnded}
+use Rattle.port_base.proofs.GivenLaws.{Beyond, given_of_gave, dead_not_live}
 use Rattle.packet_text.specs.TextLines.{full_lines, text_of_dead}
 use Rattle.packet_text.specs.LinesStand.{may_be}
 use Rattle.packet_text.specs.Laws.{AvailableIsAmong}

@@ -1,6 +1,6 @@
 -- How the lines of a place go on.
 use Rattle.std.proofs.Common.{◌≡◌, ◌≢◌, ◌+◌, ℕ, Bool, true, false, List, [], ◌∷◌, ◌++◌, length, Some, None, arith, refl, sym, ap, ◌∙◌, length-append, append_assoc, append-nil}
-use Rattle.otn_ports.specs.Views.{InView}
+use Rattle.port_base.specs.Views.{InView}
 use Rattle.packet_text.specs.TextLines.{has_lf, lines_of, full_lines}
 use Rattle.packet_text.specs.PacketText.{line_gives, Packets, Ended, BadAt, behind, with_line, packets_behind, packets_of}
 use Rattle.packet_text.specs.LinesStand.{LinesView, Begins, HasBad, GoesOn}

@@ -1,8 +1,8 @@
 -- Where the lines of a place stand, from one answer to the next.
 use Rattle.std.proofs.Common.{◌≡◌, ◌≢◌, ◌<◌, ◌≤◌, ◌+◌, ◌-◌, ◌%◌, inl, ℕ, Bool, true, false, if◌then◌else◌, List, [], ◌∷◌, ◌++◌, length, length-append, take, zero, suc, arith, refl, sym, ap, subst, ◌∙◌, append_assoc, append-nil}
-use Rattle.otn_ports.specs.Views.{InView, Live, Dead}
-use Rattle.otn_ports.specs.Given.{Gave, DiedUnended}
-use Rattle.otn_ports.proofs.GivenLaws.{dead_not_live, gave_none}
+use Rattle.port_base.specs.Views.{InView, Live, Dead}
+use Rattle.port_base.specs.Given.{Gave, DiedUnended}
+use Rattle.port_base.proofs.GivenLaws.{dead_not_live, gave_none}
 use Rattle.packet_text.specs.TextLines.{lines_of, full_lines, text_of_dead}
 use Rattle.packet_text.specs.PacketText.{Ended, packets_of, packets_behind, empty_lines, shows_bad}
 use Rattle.packet_text.specs.LinesStand.{LinesView, Begins, GoesOnWith, HasBad, may_be, GoesOn, read_short, asked_for, ReadAsNeeded, LinesStand, TakeStands, fresh_lines, given_by, is_packet}

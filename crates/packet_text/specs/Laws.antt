@@ -2,8 +2,8 @@
 use Rattle.std.specs.Prelude.{◌≡◌, ◌≢◌, ◌≤◌, ℕ, List, length}
 use Rattle.std.specs.List.{All}
 use Rattle.hex.specs.Hex.{IsBytes}
-use Rattle.otn_ports.specs.Given.{HadToGive}
-use Rattle.otn_ports.specs.Views.{InView}
+use Rattle.port_base.specs.Given.{HadToGive}
+use Rattle.port_base.specs.Views.{InView}
 use Rattle.packet_text.specs.TextLines.{text_of_dead}
 use Rattle.packet_text.specs.PacketText.{Ended, packets_of, hex_text}
 use Rattle.packet_text.specs.LinesStand.{LinesView, LinesStand, MayBe}

@@ -1,9 +1,9 @@
 -- Believed: where the lines of a place stand.
 use Rattle.std.specs.Prelude.{◌≡◌, ◌≢◌, ◌<◌, ◌≤◌, ◌%◌, ◌+◌, ◌⊎◌, if◌then◌else◌, ℕ, Bool, true, false, List, [], ◌∷◌, ◌++◌, length, take}
 use Rattle.otn_base.specs.Counts.{saturated}
-use Rattle.otn_ports.specs.Views.{InView, Live, Dead}
-use Rattle.otn_ports.specs.Given.{Gave}
-use Rattle.otn_ports.specs.Reads.{HasEnded}
+use Rattle.port_base.specs.Views.{InView, Live, Dead}
+use Rattle.port_base.specs.Given.{Gave}
+use Rattle.port_base.specs.Reads.{HasEnded}
 use Rattle.packet_text.specs.TextLines.{lines_of, full_lines, text_of_dead}
 use Rattle.packet_text.specs.PacketText.{Packets, Ended, BadAt, behind, packets_behind, packets_of, shows_bad, empty_lines}
 use Rattle.packet_text.specs.Cutting.{cut_view}

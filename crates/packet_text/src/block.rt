@@ -1,11 +1,11 @@
 // A block of a text.
 ghost use Rattle.std.specs.Prelude.{◌≡◌, ◌≢◌};
-ghost use Rattle.otn_ports.specs.InPlace.{in_view};
-ghost use Rattle.otn_ports.specs.Reads.{Reads, state_after};
-ghost use Rattle.otn_ports.specs.Views.{Live};
+ghost use Rattle.port_base.specs.InPlace.{in_view};
+ghost use Rattle.port_base.specs.Reads.{Reads, state_after};
+ghost use Rattle.port_base.specs.Views.{Live};
 
 use otn_base::{Memory, SharedBytes};
-use otn_ports::{InPlaceOf, Reading, Source};
+use port_base::{InPlaceOf, Reading, Source};
 use std::alloc::Global;
 use std::marker::Model;
 

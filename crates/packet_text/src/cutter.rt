@@ -1,13 +1,13 @@
 // A text is read by blocks and cut into lines.
 ghost use Rattle.std.specs.Prelude.{◌≡◌, ◌≢◌, ◌<◌, ◌≤◌, ◌+◌, [], true, false, length, vec_len, IfOk, MatchOption};
 ghost use Rattle.std.specs.Vec.{vec_capacity};
-ghost use Rattle.otn_ports.specs.InPlace.{in_view};
+ghost use Rattle.port_base.specs.InPlace.{in_view};
 ghost use Rattle.packet_text.specs.Steps.Carrying.{NoneCarried, Carried};
 
 use crate::block::{BLOCK, Block};
 use crate::line_feed::first_lf;
 use otn_base::{Memory, append};
-use otn_ports::{InPlaceOf, Reading, Source};
+use port_base::{InPlaceOf, Reading, Source};
 use std::alloc::Global;
 
 // Bytes of a line at most, without its LF: the most digits, and CR.

@@ -1,7 +1,7 @@
 // The packets of a text, line by line.
 ghost use Rattle.std.specs.Prelude.{◌≡◌, ◌≢◌, ◌<◌, ◌≤◌, ◌+◌, ℕ, List, [], true, length, take, vec_len, IfOk};
-ghost use Rattle.otn_ports.specs.InPlace.{in_view};
-ghost use Rattle.otn_ports.specs.Views.{InView, Live, Dead};
+ghost use Rattle.port_base.specs.InPlace.{in_view};
+ghost use Rattle.port_base.specs.Views.{InView, Live, Dead};
 ghost use Rattle.otn_base.specs.declared.limits.TheConstants.{MOST_EMPTY_LINES};
 
 use crate::Line;
@@ -9,7 +9,7 @@ use crate::cutter::{Cut, Cutter};
 use crate::digits::{MOST_DIGITS, read_line};
 use crate::found::{Found, answer_for, pass};
 use otn_base::Memory;
-use otn_ports::{InPlaceOf, Source};
+use port_base::{InPlaceOf, Source};
 use std::alloc::Global;
 use std::mem;
 

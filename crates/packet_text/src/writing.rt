@@ -1,13 +1,13 @@
 // A packet's line.
 ghost use Rattle.std.specs.Prelude.{◌≡◌, ◌≢◌, ◌+◌, ◌*◌, ◌<◌, ◌≤◌, ◌∷◌, ◌++◌, [], length, take, drop};
 ghost use Rattle.hex.specs.Hex.{encode_lower};
-ghost use Rattle.otn_ports.specs.OutPlace.{out_view};
-ghost use Rattle.otn_ports.specs.Views.{Live};
-ghost use Rattle.otn_ports.specs.Writes.{Writes, state_after_write};
+ghost use Rattle.port_base.specs.OutPlace.{out_view};
+ghost use Rattle.port_base.specs.Views.{Live};
+ghost use Rattle.port_base.specs.Writes.{Writes, state_after_write};
 ghost use Rattle.packet_text.specs.PacketText.{packet_line};
 
 use hex::encode_to_slice;
-use otn_ports::{OutPlaceOf, Sink, Written};
+use port_base::{OutPlaceOf, Sink, Written};
 
 const LF: u8 = b'\n';
 

@@ -3,7 +3,7 @@ use Rattle.std.proofs.Common.{◌≡◌, ◌≢◌, ◌<◌, ◌≤◌, ◌+◌,
 use Rattle.std.proofs.lemmas.Bool.{and_parts, and_from}
 use Rattle.std.proofs.lemmas.Bool.Decides.{nat_tests}
 use Rattle.std.proofs.lemmas.List.{length-take-le, take_at, take-append-drop}
-use Rattle.otn_ports.proofs.TakenTwice.{front}
+use Rattle.port_base.proofs.TakenTwice.{front}
 use Rattle.packet_text.specs.PacketText.{packet_line}
 use Rattle.pcap_packets.proofs.Windows.{no_bytes}
 use Rattle.pcap_packets.specs.CaptureText.{header_order, captured, is_whole_record, bad_line, records, text_behind}

@@ -1,11 +1,11 @@
 -- Where a writer of a capture stands before and after the records of many lines went.
 use Rattle.std.proofs.Common.{◌≡◌, ◌≢◌, ◌<◌, ◌^◌, ℕ, Bool, true, List, [], ◌∷◌, ◌++◌, length, Option, Some, None, arith, refl, sym, ap, ◌∙◌, append_assoc, append-nil}
 use Rattle.std.proofs.lemmas.Bool.{and_parts}
-use Rattle.otn_ports.specs.Bytes.{after}
-use Rattle.otn_ports.specs.declared.drain.Written.{Written}
-use Rattle.otn_ports.specs.declared.drain.Written.TheVariants.{Whole, Lost}
-use Rattle.otn_ports.proofs.GivenLaws.{after-none}
-use Rattle.otn_ports.proofs.TakenTwice.{after-after}
+use Rattle.port_base.specs.Bytes.{after}
+use Rattle.port_base.specs.declared.drain.Written.{Written}
+use Rattle.port_base.specs.declared.drain.Written.TheVariants.{Whole, Lost}
+use Rattle.port_base.proofs.GivenLaws.{after-none}
+use Rattle.port_base.proofs.TakenTwice.{after-after}
 use Rattle.packet_text.specs.PacketText.{hex_text}
 use Rattle.pcap_packets.specs.Written.{record_of, packets_written, packet_of}
 use Rattle.pcap_packets.specs.Steps.Writing.{Went}

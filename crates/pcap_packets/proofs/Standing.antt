@@ -4,7 +4,7 @@ use Rattle.std.specs.Option.{option_map}
 use Rattle.std.proofs.lemmas.Bool.{and_parts, and_from, cases_lt}
 use Rattle.std.proofs.lemmas.Bool.Decides.{nat_tests}
 use Rattle.std.proofs.lemmas.List.{drop_at}
-use Rattle.otn_ports.specs.Bytes.{after, HasFailed}
+use Rattle.port_base.specs.Bytes.{after, HasFailed}
 use Rattle.packet_text.specs.PacketText.{packet_line, hex_text}
 use Rattle.pcap_packets.specs.HeldBytes.{held}
 use Rattle.pcap_packets.specs.Written.{header_written, record_of, records_of, is_none, capture_of, is_record, record_packets, packets_written, packet_of}

@@ -1,8 +1,8 @@
 -- Bytes that are held, as a window of a buffer.
 use Rattle.std.proofs.Common.{◌≡◌, ◌≢◌, ◌≤◌, ◌+◌, ◌-◌, ◌*◌, ℕ, List, [], ◌∷◌, ◌++◌, length, take, drop, arith, refl, sym, ap, ◌∙◌, length-drop, length-append, append-nil, append_assoc, Option}
-use Rattle.otn_ports.specs.Bytes.{before, after}
-use Rattle.otn_ports.proofs.GivenLaws.{after-none}
-use Rattle.otn_ports.proofs.TakenTwice.{after-after}
+use Rattle.port_base.specs.Bytes.{before, after}
+use Rattle.port_base.proofs.GivenLaws.{after-none}
+use Rattle.port_base.proofs.TakenTwice.{after-after}
 use Rattle.pcap_packets.specs.Steps.Writing.{Went}
 use Rattle.std.proofs.lemmas.List.{take-append-drop, length-take-le, drop-take, drop-drop, take-take, take_at, drop_at}
 use Rattle.std.proofs.Math.Seq.{take-add}

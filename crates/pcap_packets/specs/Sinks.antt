@@ -1,7 +1,7 @@
 -- API: what is seen of a sink over a capture.
 use Rattle.std.specs.Prelude.{ℕ, ◌==◌, ◌||◌, if◌then◌else◌, [], ◌∷◌, length, Bool, not, ◌+◌, ◌-◌, ◌^◌, min, List, ◌++◌, Option}
 use Rattle.std.specs.Option.{option_map}
-use Rattle.otn_ports.specs.declared.sink.Sink.{Ghosts}
+use Rattle.port_base.specs.declared.sink.Sink.{Ghosts}
 use Rattle.packet_text.specs.PacketText.{is_nothing, hex_text}
 use Rattle.pcap_packets.specs.HeldBytes.{held}
 use Rattle.pcap_packets.specs.Written.{packets_written, digits_in_front, is_line}

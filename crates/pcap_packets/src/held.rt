@@ -1,7 +1,7 @@
 // Bytes that wait in a buffer.
 ghost use Rattle.std.specs.Prelude.{◌≡◌, ◌≢◌, ◌↔◌, ◌<◌, ◌≤◌, ◌+◌, ◌*◌, ◌/◌, ◌%◌, ◌++◌, [], IfOk, OnErr, OnOk, Ok, true, length, min, take, drop, vec_len};
-ghost use Rattle.otn_ports.specs.Bytes.{before, read_by, HasFailed};
-ghost use Rattle.otn_ports.specs.Reads.{HasEnded};
+ghost use Rattle.port_base.specs.Bytes.{before, read_by, HasFailed};
+ghost use Rattle.port_base.specs.Reads.{HasEnded};
 ghost use Rattle.packet_text.specs.PacketText.{packet_line};
 ghost use Rattle.pcap_packets.specs.Written.{all_lower, packet_of, record_of};
 ghost use Rattle.pcap_packets.specs.Decoding.{header_of};
@@ -11,8 +11,8 @@ ghost use Rattle.pcap_packets.specs.Steps.Writing.{Went};
 use crate::front::RECORD_HEADER;
 use crate::making::{put_at, put_header, put_record};
 use otn_base::Memory;
-use otn_ports::{Failed, Sink, Source};
 use packet_text::{ByteDigits, decode_digits};
+use port_base::{Failed, Sink, Source};
 use std::alloc::Global;
 
 /// Bytes of a buffer: the longest line, and the longest record twice.

@@ -1,7 +1,7 @@
 // The lines of a capture whose bytes come piece by piece.
 ghost use Rattle.std.specs.Prelude.{◌≡◌, ◌≢◌, ◌<◌, ◌≤◌, ◌+◌, ℕ, List, [], ◌++◌, true, false, Some, IfOk, OnErr, OnOk, length, take, drop};
 ghost use Rattle.std.specs.Option.{option_map};
-ghost use Rattle.otn_ports.specs.Bytes.{HasFailed};
+ghost use Rattle.port_base.specs.Bytes.{HasFailed};
 ghost use Rattle.packet_text.specs.PacketText.{packet_line};
 ghost use Rattle.pcap_packets.specs.CaptureText.{capture_text, header_order, bad_line};
 ghost use Rattle.pcap_packets.specs.HeldBytes.{held};
@@ -13,8 +13,8 @@ use crate::header::{FILE_HEADER, order_of};
 use crate::held::Held;
 use crate::order::ByteOrder;
 use otn_base::Memory;
-use otn_ports::{Failed, Source};
 use packet_text::ByteDigits;
+use port_base::{Failed, Source};
 use std::alloc::Global;
 
 // The line that no packet gives.

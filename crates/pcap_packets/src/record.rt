@@ -1,7 +1,7 @@
 // The line in hand of a sink that writes a capture, and its record.
 ghost use Rattle.std.specs.Prelude.{◌≡◌, ◌≢◌, ◌<◌, ◌≤◌, ◌-◌, ◌+◌, ◌*◌, ◌%◌, ◌∷◌, ◌++◌, List, ℕ, [], true, false, IfOk, OnOk, OnErr, length, take, drop, min, if◌then◌else◌};
-ghost use Rattle.otn_ports.specs.Bytes.{HasFailed};
-ghost use Rattle.otn_ports.specs.declared.drain.Written.TheVariants as written;
+ghost use Rattle.port_base.specs.Bytes.{HasFailed};
+ghost use Rattle.port_base.specs.declared.drain.Written.TheVariants as written;
 ghost use Rattle.pcap_packets.specs.HeldBytes.{held};
 ghost use Rattle.pcap_packets.specs.Written.{all_lower, is_line, digits_in_front, packet_of, header_written, record_of};
 ghost use Rattle.pcap_packets.specs.Steps.Writing.{Went};
@@ -11,7 +11,7 @@ use crate::front::RECORD_HEADER;
 use crate::held::Held;
 use crate::leading::{MOST_DIGITS, leading_digits};
 use otn_base::Memory;
-use otn_ports::{Failed, Sink, Written};
+use port_base::{Failed, Sink, Written};
 use std::alloc::Global;
 
 // The header of a capture, low byte first: version 2.4, packets of 65,535 bytes at most, Ethernet.

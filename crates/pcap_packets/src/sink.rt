@@ -2,15 +2,15 @@
 ghost use Rattle.std.specs.Prelude.{false, ◌≡◌, ◌≢◌, ◌<◌, ◌≤◌, ◌-◌, ◌^◌, min, ℕ, List, [], ◌∷◌, Some, IfSome, IfOk, IsErr, OnOk, OnErr, length, take, drop, slice_index, ◌⊎◌};
 ghost use Rattle.std.specs.Option.{option_map};
 ghost use Rattle.std.proofs.Props.{props};
-ghost use Rattle.otn_ports.specs.Bytes.{after, sent, HasFailed};
-ghost use Rattle.otn_ports.specs.Writes.{IsWriting};
-ghost use Rattle.otn_ports.specs.declared.drain.Written.TheVariants as written;
+ghost use Rattle.port_base.specs.Bytes.{after, sent, HasFailed};
+ghost use Rattle.port_base.specs.Writes.{IsWriting};
+ghost use Rattle.port_base.specs.declared.drain.Written.TheVariants as written;
 ghost use Rattle.pcap_packets.specs.HeldBytes.{held};
 ghost use Rattle.pcap_packets.specs.Writing.{Stands};
 
 use crate::record::LineRecord;
 use otn_base::Memory;
-use otn_ports::{Failed, Sink, Written};
+use port_base::{Failed, Sink, Written};
 use std::alloc::Global;
 
 const LF: u8 = b'\n';

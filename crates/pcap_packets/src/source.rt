@@ -1,14 +1,14 @@
 // A source that gives the packets of a capture as lines of hex digits.
 ghost use Rattle.std.specs.Prelude.{◌≡◌, ◌<◌, ◌≤◌, false, Ok, IfOk, OnOk, OnErr, length};
 ghost use Rattle.std.specs.Option.{option_map};
-ghost use Rattle.otn_ports.specs.Bytes.{before, HasFailed};
-ghost use Rattle.otn_ports.specs.Reads.{HasEnded, ended_after};
+ghost use Rattle.port_base.specs.Bytes.{before, HasFailed};
+ghost use Rattle.port_base.specs.Reads.{HasEnded, ended_after};
 ghost use Rattle.pcap_packets.specs.CaptureText.{capture_text};
 ghost use Rattle.pcap_packets.specs.Captures.{capture_left, capture_ended, capture_faults};
 
 use crate::lines::CaptureLines;
 use otn_base::Memory;
-use otn_ports::{Failed, Source};
+use port_base::{Failed, Source};
 use std::alloc::Global;
 
 /// Gives the text of the capture whose bytes another source gives: for each packet a line of hex digits in lower case.

@@ -1,8 +1,8 @@
 -- API: how a view by a plan goes.
 use Rattle.std.specs.Prelude.{◌≡◌, ℕ, List, Result, Ok, Err}
 use Rattle.otn_base.specs.declared.memory.Memory.{Memory as NoMemory}
-use Rattle.otn_ports.specs.PortViews.{SinkView, SourceView}
-use Rattle.otn_ports.specs.Views.{InView}
+use Rattle.port_base.specs.PortViews.{SinkView, SourceView}
+use Rattle.port_base.specs.Views.{InView}
 use Rattle.check_command.specs.PlanReading.{PlanReading}
 use Rattle.check_command.specs.declared.plan_text.Planned.{Planned}
 use Rattle.check_command.specs.declared.plan_text.Planned.TheVariants as planned

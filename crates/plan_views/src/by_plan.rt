@@ -1,7 +1,7 @@
 // The view of a line by a plan.
 ghost use Rattle.std.specs.Prelude.{◌≡◌, None};
-ghost use Rattle.otn_ports.specs.InPlace.{in_view};
-ghost use Rattle.otn_ports.specs.PortViews.{source_view, sink_view};
+ghost use Rattle.port_base.specs.InPlace.{in_view};
+ghost use Rattle.port_base.specs.PortViews.{source_view, sink_view};
 ghost use Rattle.plan_file.specs.Answer.{fault_in};
 ghost use Rattle.plan_views.specs.PlanRuns.{ViewedBy, ViewsLine};
 ghost use Rattle.plan_views.specs.PlanViews.{form_by, shown_by};
@@ -12,8 +12,8 @@ use crate::side::Side;
 use check_command::{Planned, read_plan};
 use line_view::write_view;
 use otn_base::Memory;
-use otn_ports::{Ended, InPlaceOf, Sink, Source};
 use plan_file::{Plan, PlanError};
+use port_base::{Ended, InPlaceOf, Sink, Source};
 use std::alloc::Global;
 
 /// How a view by a plan ended, once it had its memory.

@@ -1,6 +1,6 @@
 -- API: the meanings of a file's port are those of what it holds.
 use Rattle.std.specs.Prelude.{ℕ, Bool, false, List, [], Option}
-use Rattle.otn_ports.specs.declared.sink.Sink.{Ghosts}
+use Rattle.port_base.specs.declared.sink.Sink.{Ghosts}
 use Rattle.pcap_packets.specs.Captures.{capture_left, capture_ended, capture_faults}
 use Rattle.pcap_packets.specs.Sinks.{written_got, written_faults}
 use Rattle.program_words.specs.declared.ports.InputPort.{InputPort}

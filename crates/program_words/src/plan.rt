@@ -1,7 +1,7 @@
 // The plan's file, read before any other is opened.
 ghost use Rattle.std.specs.Prelude.{◌≡◌, ◌↔◌, true, false, IfOk, IfSome, IsOk, IsTrue, vec_len};
-ghost use Rattle.otn_ports.specs.Bytes.{before};
-ghost use Rattle.otn_ports.specs.PortViews.{source_view};
+ghost use Rattle.port_base.specs.Bytes.{before};
+ghost use Rattle.port_base.specs.PortViews.{source_view};
 ghost use Rattle.check_command.specs.PlanReading.{IsAll, most_read};
 ghost use Rattle.command_words.specs.Words.{texts};
 ghost use Rattle.plan_file.specs.Answer.{plan_of_text};

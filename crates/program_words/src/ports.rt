@@ -3,8 +3,8 @@ ghost use Rattle.program_words.specs.Ports.{input_at_hand, input_ended, input_fa
 ghost use Rattle.program_words.specs.Ports.{is_output_boxed, output_faults, output_got, output_keeps};
 
 use otn_base::SharedBytes;
-use otn_ports::{Failed, Sink, Source, Written};
 use pcap_packets::{PcapSink, PcapSource};
+use port_base::{Failed, Sink, Source, Written};
 use std::alloc::Global;
 
 /// What the place of an input file holds: the file as it is, or the capture that it has. Each call on it, and each of

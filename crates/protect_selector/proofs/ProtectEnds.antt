@@ -1,9 +1,9 @@
 -- The end of the command.
 use Rattle.std.proofs.Common.{◌≡◌, ◌≢◌, ◌⊎◌, inl, inr, ◌<◌, ◌+◌, ◌*◌, ℕ, zero, suc, Bool, true, false, List, [], ◌∷◌, ◌++◌, length, refl, sym, subst, ◌∙◌, length-append, add-one, arith, ◌↔◌, ap}
 use Rattle.std.specs.Prelude.{not, ◌||◌}
-use Rattle.otn_ports.specs.PortViews.{SinkView, SinkGot}
-use Rattle.otn_ports.specs.Views.{State, Empty, Live, Dead, is_dead, InView, OutView, BaysView}
-use Rattle.otn_ports.proofs.GivenLaws.{dead_of}
+use Rattle.port_base.specs.PortViews.{SinkView, SinkGot}
+use Rattle.port_base.specs.Views.{State, Empty, Live, Dead, is_dead, InView, OutView, BaysView}
+use Rattle.port_base.proofs.GivenLaws.{dead_of}
 use Rattle.line_side.specs.LineForm.{plain_otu2}
 use Rattle.line_side.specs.LineStands.{LineView}
 use Rattle.line_side.specs.MayBe.{MayBe}
@@ -12,20 +12,20 @@ use Rattle.line_side.proofs.Standing.{died_unended}
 use Rattle.line_side.specs.declared.ending.Ending.{Ending}
 use Rattle.line_side.specs.declared.ending.Ending.TheVariants.{Open, Seen, Died}
 use Rattle.tributary_model.specs.Places.{Tributary}
-use Rattle.otn_ports.proofs.PortLaws.{sink_got_none}
-use Rattle.otn_ports.specs.declared.drain.Written.TheVariants as written
+use Rattle.port_base.proofs.PortLaws.{sink_got_none}
+use Rattle.port_base.specs.declared.drain.Written.TheVariants as written
 use Rattle.tributary_line.specs.TapTurn.{TapView, TapStands}
 use Rattle.tributary_line.specs.TributaryFile.{AreTributaryFrames}
 use Rattle.tributary_line.proofs.FeedTurns.{file_sent}
 use Rattle.tributary_line.specs.FeedTurn.{FeedView, FeedStands}
 use Rattle.tributary_line.specs.Settling.{ended_by}
 use Rattle.tributary_line.proofs.Endings.{ends_by}
-use Rattle.otn_ports.specs.Asked.{ByteAnswer, has_come}
+use Rattle.port_base.specs.Asked.{ByteAnswer, has_come}
 use Rattle.device_model.specs.LineAsked.{is_seen, MayHave, InputLeft}
 use Rattle.device_model.specs.Moments.{line_read}
 use Rattle.device_model.proofs.SettledLines.{may_at_end, end_of_line, line_left, EndOfLine}
-use Rattle.otn_ports.specs.declared.ended.Ended.{Ended}
-use Rattle.otn_ports.specs.declared.ended.Ended.TheVariants.{ReportFault}
+use Rattle.port_base.specs.declared.ended.Ended.{Ended}
+use Rattle.port_base.specs.declared.ended.Ended.TheVariants.{ReportFault}
 use Rattle.protect_selector.specs.declared.protecting.Protecting.{Protecting}
 use Rattle.protect_selector.specs.Selector.{HasChosen}
 use Rattle.protect_selector.specs.OfLines.{turns_before, due_at, due_before, switch_text}

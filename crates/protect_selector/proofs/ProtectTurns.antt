@@ -1,11 +1,11 @@
 -- A turn of the command, from what its parts do.
 use Rattle.std.proofs.Common.{◌≡◌, ◌<◌, ◌≤◌, ◌+◌, ◌-◌, ℕ, suc, false, List, [], ◌∷◌, ◌++◌, length, take, drop, refl, ap, sym, subst, ◌∙◌, slice_range, length-take, length-drop, arith, add-one}
-use Rattle.otn_ports.proofs.PortLaws.{sink_got_twice}
-use Rattle.otn_ports.specs.OnePlace.{OnlyLineIn}
-use Rattle.otn_ports.proofs.OneOutPlace.{OnlyLineOut}
-use Rattle.otn_ports.specs.PortViews.{SinkGot, SinkWrites}
-use Rattle.otn_ports.specs.Views.{InView, OutView, BaysView, line_in_at, line_out_at}
-use Rattle.otn_ports.specs.declared.drain.Written.TheVariants as written
+use Rattle.port_base.proofs.PortLaws.{sink_got_twice}
+use Rattle.port_base.specs.OnePlace.{OnlyLineIn}
+use Rattle.port_base.proofs.OneOutPlace.{OnlyLineOut}
+use Rattle.port_base.specs.PortViews.{SinkGot, SinkWrites}
+use Rattle.port_base.specs.Views.{InView, OutView, BaysView, line_in_at, line_out_at}
+use Rattle.port_base.specs.declared.drain.Written.TheVariants as written
 use Rattle.line_side.specs.MayBe.{MayBe}
 use Rattle.tributary_model.specs.Laws.{IsTributary}
 use Rattle.tributary_model.specs.Places.{Tributary}

@@ -2,9 +2,9 @@
 use Rattle.std.specs.Prelude.{◌≡◌, ◌⊎◌, ◌↔◌, ◌<◌, ◌*◌, ℕ, suc, min, Bool, List, ◌++◌, length, take}
 use Rattle.std.specs.List.{concat}
 use Rattle.otn_base.specs.declared.limits.TheConstants.{OTU2_SLOTS}
-use Rattle.otn_ports.specs.PortViews.{SinkGot}
-use Rattle.otn_ports.specs.Sent.{IsSent}
-use Rattle.otn_ports.specs.Views.{Dead}
+use Rattle.port_base.specs.PortViews.{SinkGot}
+use Rattle.port_base.specs.Sent.{IsSent}
+use Rattle.port_base.specs.Views.{Dead}
 use Rattle.line_side.specs.LineForm.{plain_otu2}
 use Rattle.tributary_model.specs.Places.{Tributary}
 use Rattle.device_model.specs.Moments.{line_read}
@@ -12,8 +12,8 @@ use Rattle.tributary_line.specs.TributaryFile.{IsTributaryFile}
 use Rattle.device_model.specs.LineAsked.{MayHave, InputLeft}
 use Rattle.protect_selector.specs.OfLines.{due_before, switch_text, switch_text_at}
 use Rattle.protect_selector.specs.Protecting.{Ends}
-use Rattle.otn_ports.specs.declared.ended.Ended.{Ended}
-use Rattle.otn_ports.specs.declared.ended.Ended.TheVariants.{Unfinished, Cut, ReportFault, Memory}
+use Rattle.port_base.specs.declared.ended.Ended.{Ended}
+use Rattle.port_base.specs.declared.ended.Ended.TheVariants.{Unfinished, Cut, ReportFault, Memory}
 
 -- a line that has more than so many turns want
 abbrev pub HasMore : (turns : ℕ) → (available : List ℕ) → Type 0

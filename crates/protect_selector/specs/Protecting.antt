@@ -1,7 +1,7 @@
 -- Believed: the command within its turns: two sinks, what was chosen of them, and a source.
 use Rattle.std.specs.Prelude.{◌≡◌, ◌≢◌, ℕ}
-use Rattle.otn_ports.specs.PortViews.{SinkView}
-use Rattle.otn_ports.specs.Views.{InView, OutView, BaysView, line_in_at, line_out_at}
+use Rattle.port_base.specs.PortViews.{SinkView}
+use Rattle.port_base.specs.Views.{InView, OutView, BaysView, line_in_at, line_out_at}
 
 -- what is seen of the places that the command uses, and of the report
 pub record Ends : Type 0 where

@@ -1,9 +1,9 @@
 // The command: one tributary of two lines goes on, by the better one of them.
 ghost use Rattle.std.specs.Prelude.{◌≡◌, ◌≢◌, ◌+◌, ◌*◌, ◌≤◌, ℕ, IfOk, length, vec_len};
 ghost use Rattle.otn_base.specs.declared.limits.TheConstants.{GROUPS, MOST_TURNS, OTU2_SLOTS};
-ghost use Rattle.otn_ports.specs.Bytes.{HasFailed};
-ghost use Rattle.otn_ports.specs.PortViews.{sink_view};
-ghost use Rattle.otn_ports.specs.Racks.{bays_view};
+ghost use Rattle.port_base.specs.Bytes.{HasFailed};
+ghost use Rattle.port_base.specs.PortViews.{sink_view};
+ghost use Rattle.port_base.specs.Racks.{bays_view};
 ghost use Rattle.tributary_model.specs.Laws.{IsTributary};
 ghost use Rattle.tributary_model.specs.Places.{Tributary, tributary_of};
 ghost use Rattle.protect_selector.specs.Protecting.{OnlyProtected, ends_of};
@@ -14,7 +14,7 @@ use crate::protecting::Protecting;
 use crate::settling::settle;
 use otn_base::limits::GROUPS;
 use otn_base::{LineKind, Slots};
-use otn_ports::{Ended, Rack, Sink, Source, Written};
+use port_base::{Ended, Rack, Sink, Source, Written};
 use std::alloc::{AllocError, Global};
 
 /// Takes the tributary of these slots and this tributary port, 1 to 8, from line input 0, the working line, and from

@@ -1,10 +1,10 @@
 // The turns of the command: two sinks, the choice between them, and a source.
 ghost use Rattle.std.specs.Prelude.{◌≡◌, ◌≢◌, ◌+◌, ◌-◌, ◌*◌, ◌<◌, ◌≤◌, ℕ, suc, List, [], ◌∷◌, ◌++◌, IfOk, drop, length, slice_range, vec_len};
 ghost use Rattle.otn_base.specs.declared.limits.TheConstants.{GROUPS, MOST_TURNS, OTU2_SLOTS};
-ghost use Rattle.otn_ports.specs.InPlace.{in_view};
-ghost use Rattle.otn_ports.specs.OutPlace.{out_view};
-ghost use Rattle.otn_ports.specs.Given.{Gained};
-ghost use Rattle.otn_ports.specs.Views.{InView, OutView};
+ghost use Rattle.port_base.specs.InPlace.{in_view};
+ghost use Rattle.port_base.specs.OutPlace.{out_view};
+ghost use Rattle.port_base.specs.Given.{Gained};
+ghost use Rattle.port_base.specs.Views.{InView, OutView};
 ghost use Rattle.tributary_model.specs.Places.{Tributary, tributary_of};
 ghost use Rattle.tributary_line.specs.FeedTurn.{FeedStands, Completes};
 
@@ -12,7 +12,7 @@ use crate::report_line::write_switch;
 use crate::selector::Selector;
 use crate::side::{Choice, Side};
 use otn_base::{LineKind, Memory, Slots};
-use otn_ports::{OutPlaceOf, Rack, Sink, Source, Written};
+use port_base::{OutPlaceOf, Rack, Sink, Source, Written};
 use std::alloc::Global;
 use std::ops::Range;
 use tributary_line::{Feed, Tap};
@@ -26,9 +26,9 @@ pub(crate) struct Protecting {
     pub(crate) feed: Feed,
 }
 
-ghost use Rattle.otn_ports.specs.PortViews.{sink_view};
-ghost use Rattle.otn_ports.specs.Bytes.{HasFailed};
-ghost use Rattle.otn_ports.specs.Racks.{bays_view};
+ghost use Rattle.port_base.specs.PortViews.{sink_view};
+ghost use Rattle.port_base.specs.Bytes.{HasFailed};
+ghost use Rattle.port_base.specs.Racks.{bays_view};
 ghost use Rattle.tributary_model.specs.Laws.{IsTributary};
 ghost use Rattle.protect_selector.specs.OfLines.{bytes_of};
 ghost use Rattle.protect_selector.specs.Protecting.{Ends, OnlyProtected, ends_of};

@@ -2,13 +2,13 @@
 ghost use Rattle.std.specs.Prelude.{◌≡◌, ◌≤◌, ◌+◌, ◌++◌, ◌∷◌, Some, length, codes};
 ghost use Rattle.std.specs.Fmt.{decimal};
 ghost use Rattle.otn_base.specs.declared.limits.TheConstants.{MOST_TURNS};
-ghost use Rattle.otn_ports.specs.PortViews.{sink_view, SinkWrites};
+ghost use Rattle.port_base.specs.PortViews.{sink_view, SinkWrites};
 ghost use Rattle.protect_selector.specs.OfLines.{side_word, cause_word, switch_line};
 
 use crate::side::{Choice, Side, SwitchCause};
 use arrayvec::ArrayString;
 use itoa::Buffer;
-use otn_ports::{Sink, Written, write_whole};
+use port_base::{Sink, Written, write_whole};
 
 /// Digits of the number of a turn at most.
 const DIGITS: usize = 20;

@@ -1,12 +1,12 @@
 // The end of the command: whether a line has more than its turns want, and whether a place is dead.
 ghost use Rattle.std.specs.Prelude.{◌≡◌, ◌≢◌};
-ghost use Rattle.otn_ports.specs.PortViews.{SinkView};
-ghost use Rattle.otn_ports.specs.Racks.{bays_view};
+ghost use Rattle.port_base.specs.PortViews.{SinkView};
+ghost use Rattle.port_base.specs.Racks.{bays_view};
 ghost use Rattle.protect_selector.specs.Protecting.{OnlyProtected, ends_of};
 ghost use Rattle.protect_selector.specs.Steps.Protecting.{SettledAs, has_dead};
 
 use crate::protecting::Protecting;
-use otn_ports::{Ended, Rack, Sink, Source};
+use port_base::{Ended, Rack, Sink, Source};
 use tributary_line::{either, ended_by, is_dead_in, is_dead_out};
 
 /// Asks both lines for one byte more, each where its end was not seen, and says how the command ended.

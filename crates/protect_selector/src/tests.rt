@@ -1,3 +1,2 @@
-// Choices of a selector, and whole runs of the command.
+// Choices of a selector.
 mod choices;
-mod runs;

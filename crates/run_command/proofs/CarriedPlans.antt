@@ -1,10 +1,10 @@
 -- How a plan that was carried ended, by how the write of its report went.
 use Rattle.std.proofs.Common.{◌≡◌, ◌≢◌, ◌<◌, ℕ, List, Option, length, take, refl, sym, ap, subst, Result, Ok, Err, IfOk, IfErr, inr}
-use Rattle.otn_ports.specs.Bytes.{after, raised, HasFailed}
+use Rattle.port_base.specs.Bytes.{after, raised, HasFailed}
 use Rattle.otn_base.specs.declared.memory.Memory.{Memory as NoMemory}
-use Rattle.otn_ports.specs.PortViews.{SourceView, SinkGot, SinkLater, SinkView}
-use Rattle.otn_ports.specs.Views.{BaysView}
-use Rattle.otn_ports.proofs.PortLaws.{sink_later_none}
+use Rattle.port_base.specs.PortViews.{SourceView, SinkGot, SinkLater, SinkView}
+use Rattle.port_base.specs.Views.{BaysView}
+use Rattle.port_base.proofs.PortLaws.{sink_later_none}
 use Rattle.plan_file.specs.Answer.{plan_of_text}
 use Rattle.plan_file.specs.declared.plan.Plan.{Plan}
 use Rattle.device_model.specs.Report.{Numbers, report_text}

@@ -2,7 +2,7 @@
 use Rattle.std.proofs.Common.{◌≡◌, ℕ, false, List, Ok, ap, ◌∙◌, refl, subst}
 use Rattle.std.specs.List.{Contains}
 use Rattle.otn_base.specs.declared.kind.PortName.{PortName}
-use Rattle.otn_ports.specs.PortViews.{SourceView}
+use Rattle.port_base.specs.PortViews.{SourceView}
 use Rattle.plan_file.specs.Answer.{plan_of_text}
 use Rattle.plan_file.specs.declared.connection.Connection.{Connection}
 use Rattle.plan_file.specs.declared.plan.Plan.{Plan}

@@ -1,6 +1,6 @@
 -- Believed: what the command `run` answers for: the plan that was read, and what carrying it left.
 use Rattle.std.specs.Prelude.{◌≡◌, ◌≢◌, ◌≤◌, ◌*◌, ℕ, List, Ok, Err, length}
-use Rattle.otn_ports.specs.Bytes.{before, raised}
+use Rattle.port_base.specs.Bytes.{before, raised}
 use Rattle.plan_file.specs.Answer.{plan_of_text}
 use Rattle.plan_file.specs.declared.error.NoPlan.TheVariants.{Refused}
 use Rattle.plan_file.specs.declared.plan.Plan.{Plan}

@@ -1,7 +1,7 @@
 // The command `run`: a plan is carried over the places, and reported.
 ghost use Rattle.std.specs.Prelude.{◌≡◌, IfErr, IfOk, None};
-ghost use Rattle.otn_ports.specs.PortViews.{sink_view};
-ghost use Rattle.otn_ports.specs.Racks.{bays_view};
+ghost use Rattle.port_base.specs.PortViews.{sink_view};
+ghost use Rattle.port_base.specs.Racks.{bays_view};
 ghost use Rattle.plan_file.specs.Answer.{fault_in};
 ghost use Rattle.command_base.specs.Device.{Stays, device};
 ghost use Rattle.run_command.specs.PlanRuns.{run_status};
@@ -14,8 +14,8 @@ use check_command::{Planned, read_plan};
 use command_base::Status;
 use node_core::{Node, Outcome, carry_node};
 use otn_base::Memory;
-use otn_ports::{Chooser, Rack, Sink, Source, Written, write_whole};
 use plan_file::{Plan, PlanError};
+use port_base::{Chooser, Rack, Sink, Source, Written, write_whole};
 use run_report::put_report;
 use std::alloc::Global;
 

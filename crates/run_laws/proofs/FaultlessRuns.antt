@@ -4,10 +4,10 @@ use Rattle.std.specs.List.{Contains}
 use Rattle.std.proofs.lemmas.Bool.Decides.{eqb_tells}
 use Rattle.otn_base.specs.declared.kind.PortName.{PortName}
 use Rattle.otn_base.specs.declared.kind.PortName.TheVariants as port
-use Rattle.otn_ports.specs.Bytes.{HasFailed}
-use Rattle.otn_ports.specs.Given.{Lives}
-use Rattle.otn_ports.specs.Retiring.{retired_in_as, retired_out_as}
-use Rattle.otn_ports.specs.Views.{State, Empty, Live, Dead, BaysView, InView, OutView, line_in_at, line_out_at, client_in_at, client_out_at}
+use Rattle.port_base.specs.Bytes.{HasFailed}
+use Rattle.port_base.specs.Given.{Lives}
+use Rattle.port_base.specs.Retiring.{retired_in_as, retired_out_as}
+use Rattle.port_base.specs.Views.{State, Empty, Live, Dead, BaysView, InView, OutView, line_in_at, line_out_at, client_in_at, client_out_at}
 use Rattle.line_side.specs.LineForm.{through_mask}
 use Rattle.odu_client.specs.ClientInput.{input_given}
 use Rattle.plan_file.specs.declared.connection.Connection.{Connection}

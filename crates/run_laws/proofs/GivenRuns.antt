@@ -4,11 +4,11 @@ use Rattle.std.specs.List.{Contains, list_any}
 use Rattle.std.proofs.lemmas.Bool.Decides.{eqb_tells}
 use Rattle.std.proofs.lemmas.List.{append_cancel_right}
 use Rattle.otn_base.specs.declared.kind.PortName.TheVariants as port
-use Rattle.otn_ports.specs.Bytes.{before}
-use Rattle.otn_ports.specs.Given.{Took, given_between, HadToGive}
-use Rattle.otn_ports.specs.Reads.{HasEnded}
-use Rattle.otn_ports.specs.Retiring.{retired_in, retired_in_as}
-use Rattle.otn_ports.specs.Views.{State, Empty, Live, Dead, BaysView, InView, no_input, line_in_at, client_in_at}
+use Rattle.port_base.specs.Bytes.{before}
+use Rattle.port_base.specs.Given.{Took, given_between, HadToGive}
+use Rattle.port_base.specs.Reads.{HasEnded}
+use Rattle.port_base.specs.Retiring.{retired_in, retired_in_as}
+use Rattle.port_base.specs.Views.{State, Empty, Live, Dead, BaysView, InView, no_input, line_in_at, client_in_at}
 use Rattle.plan_file.specs.declared.connection.Connection.{Connection}
 use Rattle.plan_file.specs.declared.connection.FromEnd.{FromEnd}
 use Rattle.plan_file.specs.declared.connection.FromEnd.TheVariants as from_end

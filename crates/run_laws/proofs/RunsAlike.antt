@@ -6,9 +6,9 @@ use Rattle.std.proofs.lemmas.List.{drop-append-le}
 use Rattle.std.proofs.lemmas.Option.{slice_get_read}
 use Rattle.std.proofs.lemmas.Bool.Decides.{nat_tests}
 use Rattle.otn_base.specs.LineSlots.{LineSlots, slots_of}
-use Rattle.otn_ports.specs.Given.{Lives}
-use Rattle.otn_ports.specs.Retiring.{retired_out_as}
-use Rattle.otn_ports.specs.Views.{State, Live, Dead, OutView, line_out_at, client_out_at}
+use Rattle.port_base.specs.Given.{Lives}
+use Rattle.port_base.specs.Retiring.{retired_out_as}
+use Rattle.port_base.specs.Views.{State, Live, Dead, OutView, line_out_at, client_out_at}
 use Rattle.frame_geometry.specs.Places.{place_of}
 use Rattle.line_side.specs.LineFile.{frame_at, whole_frames}
 use Rattle.line_side.specs.LineForm.{size_of, through_mask}

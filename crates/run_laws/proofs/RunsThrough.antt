@@ -5,8 +5,8 @@ use Rattle.std.proofs.Math.Nat.{mul-le-mul_left}
 use Rattle.std.proofs.lemmas.Option.{slice_get_read}
 use Rattle.std.specs.Prelude.{slice_get, Some}
 use Rattle.otn_base.specs.LineSlots.{LineSlots}
-use Rattle.otn_ports.specs.Retiring.{retired_out_as}
-use Rattle.otn_ports.specs.Views.{State, Empty, Live, Dead, OutView, line_out_at, client_out_at}
+use Rattle.port_base.specs.Retiring.{retired_out_as}
+use Rattle.port_base.specs.Views.{State, Empty, Live, Dead, OutView, line_out_at, client_out_at}
 use Rattle.packet_text.specs.PacketText.{hex_text}
 use Rattle.line_side.specs.LineForm.{size_of, through_mask}
 use Rattle.line_side.proofs.LineFiles.{twice}

@@ -7,9 +7,9 @@ use Rattle.std.proofs.lemmas.List.{append_cancel_left}
 use Rattle.std.proofs.lemmas.Option.{slice_get_read}
 use Rattle.otn_base.specs.LineSlots.{LineSlots, slots_of}
 use Rattle.otn_base.specs.declared.kind.PortName.TheVariants as port
-use Rattle.otn_ports.specs.Bytes.{after}
-use Rattle.otn_ports.specs.Given.{Grew, IsWritten, written_between}
-use Rattle.otn_ports.specs.Views.{State, Empty, Live, Dead, OutView, line_out_at, client_in_at, client_out_at}
+use Rattle.port_base.specs.Bytes.{after}
+use Rattle.port_base.specs.Given.{Grew, IsWritten, written_between}
+use Rattle.port_base.specs.Views.{State, Empty, Live, Dead, OutView, line_out_at, client_in_at, client_out_at}
 use Rattle.packet_text.specs.PacketText.{hex_text}
 use Rattle.line_side.specs.LineForm.{size_of, through_mask}
 use Rattle.line_side.specs.LineOutput.{FramePut}

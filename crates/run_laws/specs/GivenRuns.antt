@@ -1,8 +1,8 @@
 -- API: runs whose inputs tell their bytes.
 use Rattle.std.specs.Prelude.{◌≡◌, ℕ, true, List}
 use Rattle.otn_base.specs.declared.kind.PortName.TheVariants as port
-use Rattle.otn_ports.specs.Given.{HadToGive}
-use Rattle.otn_ports.specs.Views.{BaysView, line_in_at, client_in_at}
+use Rattle.port_base.specs.Given.{HadToGive}
+use Rattle.port_base.specs.Views.{BaysView, line_in_at, client_in_at}
 use Rattle.plan_file.specs.declared.plan.Plan.{Plan}
 use Rattle.device_model.specs.Inputs.{AreInputs}
 use Rattle.device_model.specs.Moments.{uses}

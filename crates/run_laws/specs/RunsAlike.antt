@@ -5,7 +5,7 @@ use Rattle.std.specs.List.{Contains}
 use Rattle.otn_base.specs.LineSlots.{LineSlots, slots_of}
 use Rattle.otn_base.specs.declared.limits.TheConstants.{LINE_COLUMNS, LINE_FRAME_BYTES}
 use Rattle.frame_geometry.specs.Places.{place_of}
-use Rattle.otn_ports.specs.Views.{State, Live, Dead, BaysView, line_out_at, client_out_at}
+use Rattle.port_base.specs.Views.{State, Live, Dead, BaysView, line_out_at, client_out_at}
 use Rattle.plan_file.specs.Answer.{fault_in}
 use Rattle.plan_file.specs.declared.connection.Connection.{Connection}
 use Rattle.plan_file.specs.declared.connection.FromEnd.TheVariants as from_end

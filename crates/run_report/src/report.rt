@@ -2,7 +2,7 @@
 ghost use Rattle.std.specs.Prelude.{◌≡◌, ◌≤◌, ◌<◌, ◌+◌, ◌*◌, ◌++◌, [], if◌then◌else◌, None};
 ghost use Rattle.arrayvec.specs.ArrayString.{array_string_len};
 ghost use Rattle.otn_base.specs.declared.limits.TheConstants.{MOST_CONNECTIONS};
-ghost use Rattle.otn_ports.specs.Racks.{bays_view};
+ghost use Rattle.port_base.specs.Racks.{bays_view};
 ghost use Rattle.plan_file.specs.Answer.{fault_in};
 ghost use Rattle.device_model.specs.Moments.{uses};
 ghost use Rattle.device_model.specs.Report.{connection_lines, report_text, used_lines};
@@ -14,8 +14,8 @@ use crate::port_kind::PortKind;
 use crate::report_lines::{REPORT_BYTES, put_connection, put_port, put_status, put_turns};
 use arrayvec::ArrayString;
 use device_model::{RunNumbers, accepted_plans};
-use otn_ports::{Rack, Sink, Source};
 use plan_file::Plan;
+use port_base::{Rack, Sink, Source};
 use turn_pieces::uses;
 
 /// Puts the report of a run over an accepted plan into the empty text: the turns, a line for each port that

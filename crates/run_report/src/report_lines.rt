@@ -2,8 +2,8 @@
 ghost use Rattle.std.specs.Prelude.{◌≡◌, ◌≤◌, ◌<◌, ◌+◌, ◌++◌, ◌∷◌, [], length, codes};
 ghost use Rattle.std.specs.Fmt.{decimal};
 ghost use Rattle.arrayvec.specs.ArrayString.{array_string_len};
-ghost use Rattle.otn_ports.specs.Racks.{bays_view};
-ghost use Rattle.otn_ports.specs.Views.{State};
+ghost use Rattle.port_base.specs.Racks.{bays_view};
+ghost use Rattle.port_base.specs.Views.{State};
 ghost use Rattle.device_model.specs.Report.{client_word, connection_line, line_of, outcome_word, state_word};
 ghost use Rattle.device_model.specs.RunNumbers.{numbers_of_run};
 ghost use Rattle.run_report.specs.Steps.RunReport.{count_of, line_by, port_line, width_of};
@@ -17,7 +17,7 @@ use arrayvec::ArrayString;
 use device_model::{FromState, Outcome, RunNumbers};
 use itoa::Buffer;
 use otn_base::limits::{CLIENTS, LINES, MOST_CONNECTIONS};
-use otn_ports::{Rack, Sink, Source};
+use port_base::{Rack, Sink, Source};
 
 // The numbers of each line of a port, in order, each after its label: a further one is one more row here. `put` puts
 // them into a text, `width` says how many bytes they take at most.

@@ -1,15 +1,15 @@
 // The words of the report of a run.
 ghost use Rattle.std.specs.Prelude.{◌≡◌, ◌≤◌, ◌<◌, length};
-ghost use Rattle.otn_ports.specs.InPlace.{in_view};
-ghost use Rattle.otn_ports.specs.OutPlace.{out_view};
-ghost use Rattle.otn_ports.specs.Racks.{bays_view};
+ghost use Rattle.port_base.specs.InPlace.{in_view};
+ghost use Rattle.port_base.specs.OutPlace.{out_view};
+ghost use Rattle.port_base.specs.Racks.{bays_view};
 ghost use Rattle.device_model.specs.Outcomes.{place_state};
 ghost use Rattle.device_model.specs.Report.{state_word, from_word, outcome_word};
 ghost use Rattle.run_report.specs.Steps.RunReport.{count_of, port_of};
 
 use crate::port_kind::PortKind;
 use device_model::{FromState, Outcome};
-use otn_ports::{InPlaceOf, OutPlaceOf, Rack, Sink, Source};
+use port_base::{InPlaceOf, OutPlaceOf, Rack, Sink, Source};
 
 /// Bytes of the word for a place at most.
 pub(crate) const PLACE_WORD: usize = "empty".len();

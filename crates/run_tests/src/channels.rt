@@ -2,7 +2,7 @@
 use crate::plan_runs::{FRAME, LINE_ROOM, Places, input, kept, output, text_of};
 use line_tool::{NumberChooser, Status, run};
 use otn_base::Memory;
-use otn_ports::{MemSink, MemSource, Rack};
+use port_base::{MemSink, MemSource, Rack};
 use std::alloc::Global;
 use std::test::Fail;
 

@@ -2,7 +2,7 @@
 use crate::plan_runs::{REPORT_ROOM, THERE, TO_LINE, carried, packets, plan_of, text_of};
 use line_tool::Status;
 use otn_base::Memory;
-use otn_ports::{Bays, Failed, InPlace, InPort, MemSource, OutPlace, OutPort, Rack, Sink, Source};
+use port_base::{Bays, Failed, InPlace, InPort, MemSource, OutPlace, OutPort, Rack, Sink, Source};
 use std::alloc::Global;
 use std::cell::Cell;
 use std::rc::Rc;
@@ -27,7 +27,7 @@ struct NamedSource {
 
 impl Source for NamedSource {
     ghost use Rattle.std.specs.Prelude.{None};
-    ghost use Rattle.otn_ports.specs.Memory.{memory_ended};
+    ghost use Rattle.port_base.specs.Memory.{memory_ended};
 
     ghost left = { λ _. None };
 

@@ -6,7 +6,7 @@ use crate::plan_runs::{
 };
 use line_tool::Status;
 use otn_base::Memory;
-use otn_ports::Rack;
+use port_base::Rack;
 use std::alloc::Global;
 use std::test::Fail;
 

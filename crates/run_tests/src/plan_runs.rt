@@ -51,7 +51,7 @@ struct Counting {
 
 impl Chooser for Counting {
     ghost use Rattle.std.specs.Prelude.{◌≡◌};
-    ghost use Rattle.otn_ports.specs.Bytes.{raised};
+    ghost use Rattle.port_base.specs.Bytes.{raised};
 
     ghost asked = { λ c. c.asked };
 

@@ -6,10 +6,10 @@ use Rattle.std.proofs.lemmas.Bool.Decides.{eqb_tells}
 use Rattle.std.proofs.lemmas.Option.{slice_get_cases, slice_get_read, slice_get_within}
 use Rattle.otn_base.specs.LineSlots.{LineSlots}
 use Rattle.otn_base.specs.declared.kind.PortName.TheVariants as port
-use Rattle.otn_ports.specs.Bytes.{after}
-use Rattle.otn_ports.specs.Given.{Grew, written_between, given_between}
-use Rattle.otn_ports.specs.Places.{output_of, input_of}
-use Rattle.otn_ports.specs.Views.{State, Empty, Live, Dead, InView, OutView, BaysView, no_output, line_in_at, line_out_at}
+use Rattle.port_base.specs.Bytes.{after}
+use Rattle.port_base.specs.Given.{Grew, written_between, given_between}
+use Rattle.port_base.specs.Places.{output_of, input_of}
+use Rattle.port_base.specs.Views.{State, Empty, Live, Dead, InView, OutView, BaysView, no_output, line_in_at, line_out_at}
 use Rattle.plan_file.specs.declared.connection.Connection.{Connection}
 use Rattle.plan_file.specs.declared.connection.FromEnd.TheVariants as from_end
 use Rattle.plan_file.specs.declared.connection.ToEnd.TheVariants as to_end

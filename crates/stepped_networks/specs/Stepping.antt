@@ -2,9 +2,9 @@
 -- output got goes to the input at the other end whenever one likes. So a fibre may lead round to where it began.
 use Rattle.std.specs.Prelude.{◌≡◌, ◌≢◌, ◌<◌, ℕ, false, List, ◌++◌, Some, length, slice_get}
 use Rattle.std.specs.List.{Contains}
-use Rattle.otn_ports.specs.Bytes.{after}
-use Rattle.otn_ports.specs.Given.{Grew}
-use Rattle.otn_ports.specs.Views.{Empty, Live, BaysView, line_in_at, line_out_at}
+use Rattle.port_base.specs.Bytes.{after}
+use Rattle.port_base.specs.Given.{Grew}
+use Rattle.port_base.specs.Views.{Empty, Live, BaysView, line_in_at, line_out_at}
 use Rattle.plan_file.specs.declared.plan.Plan.{Plan}
 use Rattle.device_model.specs.Report.{Numbers}
 use Rattle.device_model.specs.RunLeft.{Takings, RunLeft}

@@ -2,8 +2,8 @@
 use crate::line_runs::FailsAt;
 use line_tool::{Status, run};
 use otn_base::Memory;
-use otn_ports::{FirstReady, MemSink, MemSource, Rack, Source};
 use plan_file::PlanError;
+use port_base::{FirstReady, MemSink, MemSource, Rack, Source};
 use std::alloc::Global;
 use std::test::Fail;
 

@@ -10,6 +10,8 @@ mod line_runs;
 #[cfg(test)]
 mod number_chooser;
 #[cfg(test)]
+mod protect_runs;
+#[cfg(test)]
 mod pull;
 #[cfg(test)]
 mod report;

@@ -1,8 +1,8 @@
 // Whole runs over ports in memory, with one line.
 use line_tool::{Status, run};
 use otn_base::Memory;
-use otn_ports::{Failed, FirstReady, InPlaceOf, MemSink, MemSource, OutPlaceOf, Rack, Source};
 use plan_file::PlanError;
+use port_base::{Failed, FirstReady, InPlaceOf, MemSink, MemSource, OutPlaceOf, Rack, Source};
 use std::alloc::Global;
 
 /// A source in memory that fails at one of its calls, counted from 1.
@@ -28,7 +28,7 @@ impl FailsAt {
 
 impl Source for FailsAt {
     ghost use Rattle.std.specs.Prelude.{None};
-    ghost use Rattle.otn_ports.specs.Memory.{memory_ended};
+    ghost use Rattle.port_base.specs.Memory.{memory_ended};
 
     ghost left = { λ _. None };
 

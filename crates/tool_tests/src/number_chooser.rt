@@ -1,6 +1,6 @@
 // The chooser drawn from a number.
 use line_tool::NumberChooser;
-use otn_ports::Chooser;
+use port_base::Chooser;
 
 #[test]
 fn a_number_settles_its_choices(rt: HostRuntime) {

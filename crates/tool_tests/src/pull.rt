@@ -2,7 +2,7 @@
 use crate::line_runs::{FailsAt, ran};
 use line_tool::Status;
 use otn_base::Memory;
-use otn_ports::{MemSource, Source};
+use port_base::{MemSource, Source};
 use std::alloc::Global;
 use std::test::Fail;
 

@@ -4,8 +4,8 @@ use line_side::LineCounts;
 use line_tool::{REPORT_BYTES, put_report};
 use node_core::{ClientInCounts, ClientOutCounts, FromState, Outcome, RunNumbers};
 use otn_base::Memory;
-use otn_ports::{InPlaceOf, MemSink, MemSource, OutPlaceOf, Rack};
 use plan_file::Plan;
+use port_base::{InPlaceOf, MemSink, MemSource, OutPlaceOf, Rack};
 use std::alloc::Global;
 use std::test::Fail;
 

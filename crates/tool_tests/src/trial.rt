@@ -1,7 +1,7 @@
 // The command `trial`.
 use line_tool::{Status, run};
 use otn_base::Memory;
-use otn_ports::{Chooser, MemSink, MemSource, Rack};
+use port_base::{Chooser, MemSink, MemSource, Rack};
 use std::alloc::Global;
 use std::test::Fail;
 

@@ -3,11 +3,11 @@ use Rattle.std.proofs.Common.{◌≡◌, ◌≤◌, ◌<◌, ◌+◌, ◌*◌, �
 use Rattle.std.specs.Prelude.{All}
 use Rattle.std.specs.List.{concat}
 use Rattle.std.proofs.lemmas.List.Elements.{All-head, All-tail}
-use Rattle.otn_ports.specs.Bytes.{raised}
-use Rattle.otn_ports.specs.PortViews.{SinkView, SinkWrites}
-use Rattle.otn_ports.specs.Views.{BaysView}
-use Rattle.otn_ports.specs.declared.drain.Written.{Written}
-use Rattle.otn_ports.proofs.GivenLaws.{raised-twice}
+use Rattle.port_base.specs.Bytes.{raised}
+use Rattle.port_base.specs.PortViews.{SinkView, SinkWrites}
+use Rattle.port_base.specs.Views.{BaysView}
+use Rattle.port_base.specs.declared.drain.Written.{Written}
+use Rattle.port_base.proofs.GivenLaws.{raised-twice}
 use Rattle.device_model.specs.Through.{Inputs}
 use Rattle.packet_text.specs.PacketText.{packet_line, hex_text}
 use Rattle.trial_command.specs.TrialAnswers.{TrialRan}

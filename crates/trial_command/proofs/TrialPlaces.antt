@@ -3,20 +3,20 @@ use Rattle.std.proofs.Common.{◌≡◌, ◌≢◌, ◌≤◌, ◌<◌, ◌+◌,
 use Rattle.std.specs.Prelude.{slice_get}
 use Rattle.std.proofs.lemmas.Bool.{cases_lt}
 use Rattle.std.proofs.lemmas.Option.{slice_get-get_or}
-use Rattle.otn_ports.specs.Bytes.{raised}
-use Rattle.otn_ports.specs.InPlace.{in_view}
-use Rattle.otn_ports.specs.OutPlace.{out_view}
-use Rattle.otn_ports.specs.Racks.{bays_view, with_line_out, with_client_in, with_client_out, IsVacant}
-use Rattle.otn_ports.specs.Views.{BaysView, no_input, line_in_at, line_out_at, client_in_at, client_out_at}
-use Rattle.otn_ports.specs.contracts.mem_source.MemSourceSource.TheImpl as source
-use Rattle.otn_ports.specs.declared.sink.Sink as sink
-use Rattle.otn_ports.specs.declared.bays.Rack.{Rack}
-use Rattle.otn_ports.specs.declared.in_place.InPlaceOf.{InPlaceOf}
-use Rattle.otn_ports.specs.declared.in_place.InPlaceOf.TheVariants as input
-use Rattle.otn_ports.specs.declared.mem_source.MemSource.{MemSource}
-use Rattle.otn_ports.specs.declared.out_place.OutPlaceOf.{OutPlaceOf}
-use Rattle.otn_ports.specs.declared.out_place.OutPlaceOf.TheVariants as output
-use Rattle.otn_ports.proofs.BaysLaws.{line_out_set, client_in_set, only_client_in, client_out_set, only_client_out}
+use Rattle.port_base.specs.Bytes.{raised}
+use Rattle.port_base.specs.InPlace.{in_view}
+use Rattle.port_base.specs.OutPlace.{out_view}
+use Rattle.port_base.specs.Racks.{bays_view, with_line_out, with_client_in, with_client_out, IsVacant}
+use Rattle.port_base.specs.Views.{BaysView, no_input, line_in_at, line_out_at, client_in_at, client_out_at}
+use Rattle.port_base.specs.contracts.mem_source.MemSourceSource.TheImpl as source
+use Rattle.port_base.specs.declared.sink.Sink as sink
+use Rattle.port_base.specs.declared.bays.Rack.{Rack}
+use Rattle.port_base.specs.declared.in_place.InPlaceOf.{InPlaceOf}
+use Rattle.port_base.specs.declared.in_place.InPlaceOf.TheVariants as input
+use Rattle.port_base.specs.declared.mem_source.MemSource.{MemSource}
+use Rattle.port_base.specs.declared.out_place.OutPlaceOf.{OutPlaceOf}
+use Rattle.port_base.specs.declared.out_place.OutPlaceOf.TheVariants as output
+use Rattle.port_base.proofs.BaysLaws.{line_out_set, client_in_set, only_client_in, client_out_set, only_client_out}
 use Rattle.bounded_ports.specs.contracts.bounded_sink.BoundedSinkSink.TheImpl as bounded
 use Rattle.bounded_ports.specs.declared.bounded_sink.BoundedSink.{BoundedSink}
 use Rattle.plan_file.specs.declared.plan.Plan.{Plan}

@@ -8,7 +8,7 @@ use Rattle.std.proofs.lemmas.List.Elements.{All-head, All-tail}
 use Rattle.std.proofs.lemmas.List.Sums.{sum_by-cons}
 use Rattle.hex.specs.Hex.{encode_lower, lower_digits, is_hex_digit}
 use Rattle.hex.proofs.HexLemmas.{length-encode_with, decode_of-encode_lower, decode_of-ok}
-use Rattle.otn_ports.specs.Views.{OutView, BaysView, client_out_at}
+use Rattle.port_base.specs.Views.{OutView, BaysView, client_out_at}
 use Rattle.packet_text.specs.Laws.{IsPacket}
 use Rattle.packet_text.specs.PacketText.{packet_line, hex_text}
 use Rattle.trial_command.specs.TrialReport.{bytes_of, client_line, client_lines}

@@ -9,10 +9,10 @@ use Rattle.std.proofs.lemmas.List.Folds.{list_any_none}
 use Rattle.std.proofs.lemmas.List.FromFn.{length-map-range_with_len, get_or-map-range_with_len}
 use Rattle.otn_base.specs.declared.kind.PortName.TheVariants as port
 use Rattle.bounded_ports.specs.Full.{FailsFull}
-use Rattle.otn_ports.specs.Bytes.{before, after, HasFailed}
-use Rattle.otn_ports.specs.Given.{Lives}
-use Rattle.otn_ports.specs.Reads.{HasEnded}
-use Rattle.otn_ports.specs.Views.{State, Live, InView, OutView, BaysView, line_in_at, line_out_at, client_in_at, client_out_at}
+use Rattle.port_base.specs.Bytes.{before, after, HasFailed}
+use Rattle.port_base.specs.Given.{Lives}
+use Rattle.port_base.specs.Reads.{HasEnded}
+use Rattle.port_base.specs.Views.{State, Live, InView, OutView, BaysView, line_in_at, line_out_at, client_in_at, client_out_at}
 use Rattle.plan_file.specs.declared.connection.Connection.{Connection}
 use Rattle.device_model.specs.Inputs.{has_died}
 use Rattle.device_model.specs.LineFiles.{IsLineFile}

@@ -1,10 +1,10 @@
 -- What the top call answers for, of the trial of a number.
 use Rattle.std.proofs.Common.{◌≡◌, ◌≢◌, ℕ, ap, take, sym, subst, Result, Ok, Err, IfOk, IfErr}
 use Rattle.otn_base.specs.declared.memory.Memory.{Memory as NoMemory}
-use Rattle.otn_ports.proofs.PortLaws.{sink_later_none}
-use Rattle.otn_ports.specs.PortViews.{SinkLater, SinkView}
-use Rattle.otn_ports.specs.declared.drain.Written.{Written}
-use Rattle.otn_ports.specs.declared.drain.Written.TheVariants as written
+use Rattle.port_base.proofs.PortLaws.{sink_later_none}
+use Rattle.port_base.specs.PortViews.{SinkLater, SinkView}
+use Rattle.port_base.specs.declared.drain.Written.{Written}
+use Rattle.port_base.specs.declared.drain.Written.TheVariants as written
 use Rattle.trial_command.specs.TrialAnswers.{trial_status, TrialAnswers, TrialRan}
 use Rattle.command_base.specs.AnswerWords.{IsRefusal}
 use Rattle.trial_command.specs.TrialReport.{trial_report}

@@ -1,10 +1,10 @@
 -- Believed: what the command `trial` answers for.
 use Rattle.std.specs.Prelude.{◌≡◌, ℕ, ◌*◌, List, Result, Ok, Err}
 use Rattle.otn_base.specs.declared.memory.Memory.{Memory as NoMemory}
-use Rattle.otn_ports.specs.Bytes.{raised}
-use Rattle.otn_ports.specs.PortViews.{SinkView, SinkWrites}
-use Rattle.otn_ports.specs.declared.drain.Written.{Written}
-use Rattle.otn_ports.specs.declared.drain.Written.TheVariants as written
+use Rattle.port_base.specs.Bytes.{raised}
+use Rattle.port_base.specs.PortViews.{SinkView, SinkWrites}
+use Rattle.port_base.specs.declared.drain.Written.{Written}
+use Rattle.port_base.specs.declared.drain.Written.TheVariants as written
 use Rattle.device_model.specs.Through.{Inputs}
 use Rattle.trial_plans.specs.TrialCarried.{AreTrialRuns}
 use Rattle.trial_plans.specs.TrialDraw.{packets_of_trial}

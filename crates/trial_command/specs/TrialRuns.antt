@@ -1,7 +1,7 @@
 -- Believed: the runs of the trial, over places in memory.
 use Rattle.std.specs.Prelude.{ℕ, ◌+◌, ◌*◌, false, true, List, [], Some}
 use Rattle.otn_base.specs.declared.limits.TheConstants.{LINE_FRAME_BYTES}
-use Rattle.otn_ports.specs.Views.{Live, InView, OutView}
+use Rattle.port_base.specs.Views.{Live, InView, OutView}
 use Rattle.trial_plans.specs.TrialCarried.{longest_packet, trial_frames}
 use Rattle.trial_plans.specs.TrialPlans.{trial_packets, trial_turns}
 

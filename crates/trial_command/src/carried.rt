@@ -1,6 +1,6 @@
 // The four runs of the trial.
 ghost use Rattle.std.specs.Prelude.{◌≡◌, ◌≤◌, ◌<◌, IfOk};
-ghost use Rattle.otn_ports.specs.Racks.{bays_view};
+ghost use Rattle.port_base.specs.Racks.{bays_view};
 ghost use Rattle.trial_command.specs.Steps.TrialRuns.{RunWent, FirstRan, MiddleRan, LastRan};
 
 use crate::places::{
@@ -9,7 +9,7 @@ use crate::places::{
 use bounded_ports::{BoundedSink, full_where_failed};
 use node_core::{Node, carry_node};
 use otn_base::Memory;
-use otn_ports::{Chooser, MemSource, Sink, Source};
+use port_base::{Chooser, MemSource, Sink, Source};
 use std::alloc::Global;
 use trial_plans::plan_of_run;
 

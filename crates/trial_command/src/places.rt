@@ -1,15 +1,15 @@
 // The places of the trial, in memory.
 ghost use Rattle.std.specs.Prelude.{◌≡◌, ◌<◌, Some, IfOk};
-ghost use Rattle.otn_ports.specs.InPlace.{in_view};
-ghost use Rattle.otn_ports.specs.OutPlace.{out_view};
-ghost use Rattle.otn_ports.specs.Racks.{bays_view};
-ghost use Rattle.otn_ports.specs.Views.{Live, line_out_at};
+ghost use Rattle.port_base.specs.InPlace.{in_view};
+ghost use Rattle.port_base.specs.OutPlace.{out_view};
+ghost use Rattle.port_base.specs.Racks.{bays_view};
+ghost use Rattle.port_base.specs.Views.{Live, line_out_at};
 ghost use Rattle.trial_command.specs.TrialRuns.{file_bytes, holding, most_text, waiting};
 ghost use Rattle.trial_command.specs.Steps.TrialRuns.{FirstPlaces, MiddlePlaces, LastPlaces};
 
 use bounded_ports::BoundedSink;
 use otn_base::Memory;
-use otn_ports::{InPlaceOf, MemSource, OutPlaceOf, Rack, Sink, Source};
+use port_base::{InPlaceOf, MemSource, OutPlaceOf, Rack, Sink, Source};
 use std::alloc::Global;
 use std::mem;
 use trial_plans::{CLIENTS, draw_text, generator_of};

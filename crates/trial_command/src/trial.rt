@@ -1,7 +1,7 @@
 // The command `trial`: packets of eight clients, through four runs in a row.
 ghost use Rattle.std.specs.Prelude.{◌≡◌, IfErr, IfOk, string_bytes};
-ghost use Rattle.otn_ports.specs.PortViews.{sink_view};
-ghost use Rattle.otn_ports.specs.Racks.{bays_view};
+ghost use Rattle.port_base.specs.PortViews.{sink_view};
+ghost use Rattle.port_base.specs.Racks.{bays_view};
 ghost use Rattle.trial_command.specs.TrialAnswers.{TrialRan, trial_status};
 ghost use Rattle.trial_plans.specs.TrialPlans.{trial_clients};
 ghost use Rattle.trial_command.specs.Steps.TrialRuns.{AllClientsLive, ClientsTold};
@@ -12,7 +12,7 @@ use crate::places::{Memories, TEXT_ROOM, TextSink, rooms_suffice, text_of};
 use bounded_ports::BoundedSink;
 use command_base::Status;
 use otn_base::Memory;
-use otn_ports::{Chooser, MemSource, Sink, Source, Written, write_whole};
+use port_base::{Chooser, MemSource, Sink, Source, Written, write_whole};
 use std::alloc::Global;
 use trial_plans::CLIENTS;
 

@@ -6,8 +6,8 @@ use Rattle.std.proofs.lemmas.Nat.{div-mul-add, mod-mul-add}
 use Rattle.std.proofs.lemmas.Option.{slice_get_within}
 use Rattle.std.proofs.Math.Nat.{div-lt_iff_lt-mul, mul-le-mul_left, mul-add}
 use Rattle.std.specs.List.{concat}
-use Rattle.otn_ports.specs.Sent.{IsSent}
-use Rattle.otn_ports.specs.Views.{OutView}
+use Rattle.port_base.specs.Sent.{IsSent}
+use Rattle.port_base.specs.Views.{OutView}
 use Rattle.line_side.specs.LineForm.{LineForm, plain_otu2}
 use Rattle.line_side.specs.LineOutput.{FramePut, LineMade, LineOutView}
 use Rattle.line_side.proofs.Made.{all_due}

@@ -1,7 +1,7 @@
 -- The pieces of a turn, with a sink on the line.
 use Rattle.std.proofs.Common.{◌≡◌, ◌+◌, ◌∙◌, ℕ, true, false, List, [], ◌∷◌, ◌++◌, Option, Some, None, refl, sym, ap, subst, add-one, append-nil}
 use Rattle.std.specs.Prelude.{is_some, IfSome}
-use Rattle.otn_ports.specs.Views.{InView}
+use Rattle.port_base.specs.Views.{InView}
 use Rattle.line_side.specs.LineForm.{plain_otu2}
 use Rattle.line_side.specs.LineFile.{frame_at, mfas_of}
 use Rattle.line_side.specs.LineStands.{LineView, PieceStands}

@@ -1,7 +1,7 @@
 -- API: a source on an output line, within a turn and between turns.
 use Rattle.std.specs.Prelude.{◌≡◌, ℕ, ◌+◌, ◌*◌, ◌/◌, ◌%◌, ◌≤◌, List, length}
 use Rattle.otn_base.specs.declared.limits.TheConstants.{GROUPS, OTU2_SLOTS}
-use Rattle.otn_ports.specs.Views.{OutView}
+use Rattle.port_base.specs.Views.{OutView}
 use Rattle.line_side.specs.LineForm.{plain_otu2}
 use Rattle.line_side.specs.LineOutput.{FramePut, LineMade, LineOutView}
 use Rattle.tributary_model.specs.Carries.{sent}

@@ -1,7 +1,7 @@
 -- API: how a command over lines ends.
 use Rattle.std.specs.Prelude.{Bool, true, false}
-use Rattle.otn_ports.specs.declared.ended.Ended.{Ended}
-use Rattle.otn_ports.specs.declared.ended.Ended.TheVariants.{Done, Unfinished, Cut}
+use Rattle.port_base.specs.declared.ended.Ended.{Ended}
+use Rattle.port_base.specs.declared.ended.Ended.TheVariants.{Done, Unfinished, Cut}
 
 -- how the command ends, by whether a place that it uses is dead and whether more is left than it takes
 abbrev pub ended_by : (dead more : Bool) → Ended

@@ -2,7 +2,7 @@
 use Rattle.std.specs.Prelude.{◌≡◌, ℕ, ◌+◌, false, List, ◌++◌}
 use Rattle.otn_base.specs.declared.limits.TheConstants.{OTU2_SLOTS}
 use Rattle.otn_base.specs.declared.line_kind.LineKind.TheVariants.{Otu2}
-use Rattle.otn_ports.specs.Views.{InView}
+use Rattle.port_base.specs.Views.{InView}
 use Rattle.line_side.specs.LineFile.{mfas_of}
 use Rattle.line_side.specs.LineForm.{plain_otu2}
 use Rattle.line_side.specs.LineStands.{LineView, LineStands, frames_taken}

@@ -1,8 +1,8 @@
 // A tributary put on an output line.
 ghost use Rattle.std.specs.Prelude.{◌≡◌, ◌+◌, ◌*◌, ◌<◌, ◌≤◌, ℕ, List, [], ◌∷◌, ◌++◌, IfOk, length, slice_index, slice_range, vec_len};
-ghost use Rattle.otn_ports.specs.Given.{Gained};
-ghost use Rattle.otn_ports.specs.OutPlace.{out_view};
-ghost use Rattle.otn_ports.specs.Views.{OutView};
+ghost use Rattle.port_base.specs.Given.{Gained};
+ghost use Rattle.port_base.specs.OutPlace.{out_view};
+ghost use Rattle.port_base.specs.Views.{OutView};
 ghost use Rattle.tributary_model.specs.Places.{Tributary, tributary_of};
 ghost use Rattle.otn_base.specs.declared.limits.TheConstants.{GROUPS};
 ghost use Rattle.trib_source.specs.Source.{StandsAfter as SourceStands};
@@ -12,7 +12,7 @@ use line_side::LineOut;
 use msi_table::SlotMap;
 use otn_base::limits::{LINE_COLUMNS, LINE_FRAME_BYTES, OTU2_SLOTS};
 use otn_base::{LineKind, Memory, Slots};
-use otn_ports::{OutPlaceOf, Sink};
+use port_base::{OutPlaceOf, Sink};
 use std::alloc::Global;
 use std::marker::Model;
 use std::ops::Range;

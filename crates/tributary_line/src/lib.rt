@@ -15,6 +15,6 @@ mod tests;
 
 pub use feed::Feed;
 pub use laws::what_is_fed;
-pub use otn_ports::{is_dead_in, is_dead_out};
+pub use port_base::{is_dead_in, is_dead_out};
 pub use settling::{either, ended_by};
 pub use tap::Tap;

@@ -2,7 +2,7 @@
 ghost use Rattle.std.specs.Prelude.{◌≡◌, ◌≢◌, ◌||◌};
 ghost use Rattle.tributary_line.specs.Settling.{ended_by};
 
-use otn_ports::Ended;
+use port_base::Ended;
 
 /// How a command ends whose report was written: `Cut` where a place that it uses is dead, else `Unfinished` where
 /// more is left than it takes, else `Done`.

@@ -1,10 +1,10 @@
 // The sink of a tributary on an input line.
 ghost use Rattle.std.specs.Prelude.{◌≡◌, ◌+◌, ◌*◌, ◌<◌, ◌≤◌, ℕ, true, false, not, List, [], IfOk, length, slice_range, vec_len};
-ghost use Rattle.otn_ports.specs.InPlace.{in_view};
-ghost use Rattle.otn_ports.specs.Views.{InView};
+ghost use Rattle.port_base.specs.InPlace.{in_view};
+ghost use Rattle.port_base.specs.Views.{InView};
 ghost use Rattle.tributary_model.specs.Places.{Tributary, tributary_of};
 ghost use Rattle.tributary_model.specs.Stretches.{state_after};
-ghost use Rattle.otn_ports.specs.Asked.{ByteAnswer};
+ghost use Rattle.port_base.specs.Asked.{ByteAnswer};
 ghost use Rattle.device_model.specs.LineAsked.{is_seen};
 ghost use Rattle.device_model.specs.LineViews.{views_until};
 ghost use Rattle.otn_base.specs.declared.limits.TheConstants.{GROUPS, OTU2_SLOTS};
@@ -12,7 +12,7 @@ ghost use Rattle.otn_base.specs.declared.limits.TheConstants.{GROUPS, OTU2_SLOTS
 use line_side::UncountedLineIn;
 use otn_base::limits::OTU2_SLOTS;
 use otn_base::{LineKind, Memory, Slots};
-use otn_ports::{InPlaceOf, Source, ask_byte};
+use port_base::{InPlaceOf, Source, ask_byte};
 use std::alloc::Global;
 use std::marker::Model;
 use std::ops::Range;

@@ -6,7 +6,7 @@ ghost use Rattle.tributary_line.specs.TapTurn.{IsBetweenTurns};
 use crate::{Feed, Tap};
 use otn_base::limits::{GROUPS, LINE_FRAME_BYTES};
 use otn_base::{LineKind, Memory, Slots};
-use otn_ports::{InPlaceOf, MemSink, MemSource, OutPlaceOf};
+use port_base::{InPlaceOf, MemSink, MemSource, OutPlaceOf};
 use std::alloc::Global;
 use std::test::Fail;
 use tributary_model::SinkState;

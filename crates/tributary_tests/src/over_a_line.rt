@@ -7,7 +7,7 @@ use line_side::{LineIn, LineOut};
 use msi_table::SlotMap;
 use otn_base::limits::{GROUPS, LINE_FRAME_BYTES, NOMINAL};
 use otn_base::{LineKind, Memory, Slots};
-use otn_ports::{InPlaceOf, MemSink, MemSource, OutPlaceOf};
+use port_base::{InPlaceOf, MemSink, MemSource, OutPlaceOf};
 use std::alloc::Global;
 use std::test::Fail;
 use trib_sink::TribSink;

@@ -3,15 +3,15 @@ use Rattle.std.proofs.Common.{◌≡◌, ◌≢◌, inl, inr, ◌<◌, ◌≤◌
 use Rattle.std.specs.Prelude.{not}
 use Rattle.std.proofs.lemmas.Bool.{cases_lt}
 use Rattle.otn_base.specs.declared.limits.TheConstants.{CLIENTS, MOST_TURNS}
-use Rattle.otn_ports.specs.OnePlace.{OnlyLineIn}
-use Rattle.otn_ports.specs.PortViews.{SinkView, SinkWrites}
-use Rattle.otn_ports.specs.Sent.{IsSent}
-use Rattle.otn_ports.specs.Views.{InView, BaysView, line_in_at, client_out_at}
-use Rattle.otn_ports.specs.declared.drain.Written.TheVariants as written
+use Rattle.port_base.specs.OnePlace.{OnlyLineIn}
+use Rattle.port_base.specs.PortViews.{SinkView, SinkWrites}
+use Rattle.port_base.specs.Sent.{IsSent}
+use Rattle.port_base.specs.Views.{InView, BaysView, line_in_at, client_out_at}
+use Rattle.port_base.specs.declared.drain.Written.TheVariants as written
 use Rattle.line_side.specs.LineForm.{plain_otu2}
 use Rattle.gfp_linear.specs.ChannelArrivals.{ChannelArrival}
 use Rattle.gfp_linear.specs.Laws.{packets_on}
-use Rattle.otn_ports.specs.Asked.{ByteAsked, ByteAnswer, has_come}
+use Rattle.port_base.specs.Asked.{ByteAsked, ByteAnswer, has_come}
 use Rattle.device_model.specs.LineAsked.{is_seen}
 use Rattle.device_model.proofs.SettledLines.{may_at_end, end_of_line, line_left}
 use Rattle.tributary_line.specs.Settling.{ended_by}
@@ -21,8 +21,8 @@ use Rattle.unbundle_command.specs.Receiving.{ChannelView, OutputsView}
 use Rattle.unbundle_command.specs.Steps.Receiving.{NoneHeld, OutputsStand, OnlyClientsOut}
 use Rattle.unbundle_command.specs.Steps.Unbundling.{TurnsGone, IsReady, IsDeadAt, DeadChannel, HasDead}
 use Rattle.unbundle_command.specs.UnbundleLeft.{HasMore, IsCut, OutputsSent, written_by, UnbundleRan}
-use Rattle.otn_ports.specs.declared.ended.Ended.{Ended}
-use Rattle.otn_ports.specs.declared.ended.Ended.TheVariants.{ReportFault}
+use Rattle.port_base.specs.declared.ended.Ended.{Ended}
+use Rattle.port_base.specs.declared.ended.Ended.TheVariants.{ReportFault}
 use Rattle.unbundle_command.specs.declared.unbundling.Unbundling.{Unbundling}
 use Rattle.unbundle_command.proofs.Few.{client_few}
 use Rattle.unbundle_command.proofs.Turns.{outputs_on, line_same}

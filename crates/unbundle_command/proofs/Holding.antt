@@ -10,10 +10,10 @@ use Rattle.std.proofs.lemmas.List.{get_or-set_same, get_or-set_other}
 use Rattle.std.proofs.lemmas.List.Elements.{filter-append}
 use Rattle.otn_base.specs.Counts.{saturated}
 use Rattle.otn_base.specs.declared.limits.TheConstants.{CLIENTS}
-use Rattle.otn_ports.proofs.OneOutPlace.{OnlyClientOut}
-use Rattle.otn_ports.specs.Sent.{IsSent}
-use Rattle.otn_ports.specs.Views.{OutView, BaysView, client_out_at}
-use Rattle.otn_ports.proofs.SentLaws.{sent_none, sent_twice}
+use Rattle.port_base.proofs.OneOutPlace.{OnlyClientOut}
+use Rattle.port_base.specs.Sent.{IsSent}
+use Rattle.port_base.specs.Views.{OutView, BaysView, client_out_at}
+use Rattle.port_base.proofs.SentLaws.{sent_none, sent_twice}
 use Rattle.packet_text.specs.PacketText.{packet_line, hex_text}
 use Rattle.gfp_linear.specs.ChannelArrivals.{ChannelArrival, PacketOn, LossOn}
 use Rattle.gfp_linear.specs.Laws.{packet_on, packets_on}

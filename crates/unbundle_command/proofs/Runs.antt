@@ -13,7 +13,7 @@ use Rattle.odu_client.proofs.PuttingOut.{handed_behind, broken_behind}
 use Rattle.odu_client.specs.AlignedRuns.{Arrival, Handed, Broken, searching, arrivals, payload_of, with_payload, runs_of}
 use Rattle.odu_client.specs.Aligner.{AlignerState, HasAligned, news, AlignsBy}
 use Rattle.odu_client.specs.declared.aligned.Aligned.{Aligned}
-use Rattle.otn_ports.specs.Views.{BaysView}
+use Rattle.port_base.specs.Views.{BaysView}
 use Rattle.unbundle_command.specs.Unbundled.{client_arrivals}
 use Rattle.unbundle_command.specs.Receiving.{OutputsView}
 use Rattle.unbundle_command.specs.Steps.Receiving.{OutputsStand, last_run, RunRead, AllRead, HoldsAfter}

@@ -1,7 +1,7 @@
 -- The report of the command.
 use Rattle.std.proofs.Common.{◌≡◌, ◌<◌, ◌≤◌, ℕ, ◌+◌, ◌-◌, ◌^◌, List, [], ◌++◌, length, sym, ap, ◌∙◌, append_assoc, add-one}
 use Rattle.otn_base.specs.declared.limits.TheConstants.{CLIENTS}
-use Rattle.otn_ports.specs.Views.{BaysView}
+use Rattle.port_base.specs.Views.{BaysView}
 use Rattle.gfp_linear.specs.ChannelArrivals.{ChannelArrival}
 use Rattle.unbundle_command.specs.Unbundled.{is_loss_on, is_of_other, packet_count, loss_count, other_count, channel_line, channel_lines, other_text, report_text}
 use Rattle.unbundle_command.specs.Receiving.{ChannelView, OutputsView}

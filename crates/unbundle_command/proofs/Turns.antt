@@ -2,8 +2,8 @@
 use Rattle.std.proofs.Common.{◌≡◌, ◌≤◌, ℕ, zero, suc, ◌+◌, ◌-◌, ◌*◌, List, [], ◌∷◌, ◌++◌, length, slice_range, get_or, refl, sym, ap, subst, ◌∙◌, append-nil, length-append, length-take, length-drop, add-one, arith}
 use Rattle.std.specs.List.{flat_map, range_with_len}
 use Rattle.std.proofs.lemmas.Grind.{flat_map-append}
-use Rattle.otn_ports.specs.OnePlace.{OnlyLineIn}
-use Rattle.otn_ports.specs.Views.{InView, BaysView, no_input, no_output, line_in_at, client_out_at}
+use Rattle.port_base.specs.OnePlace.{OnlyLineIn}
+use Rattle.port_base.specs.Views.{InView, BaysView, no_input, no_output, line_in_at, client_out_at}
 use Rattle.tributary_model.specs.Places.{Tributary}
 use Rattle.tributary_line.specs.TapTurn.{TapView, TapStands, TurnMoves}
 use Rattle.device_model.specs.LineViews.{emitted_at}

@@ -1,6 +1,6 @@
 -- Believed: the command within its turns: a sink, and what becomes of the bytes that it emits.
 use Rattle.std.specs.Prelude.{◌≡◌, ◌≢◌, ℕ}
-use Rattle.otn_ports.specs.Views.{BaysView, line_in_at}
+use Rattle.port_base.specs.Views.{BaysView, line_in_at}
 
 -- all places but line input 0 and the client outputs are as they were
 pub record OnlyUnbundled (first now : BaysView) : Type 0 where

@@ -2,15 +2,15 @@
 // and losses arrived on it.
 ghost use Rattle.std.specs.Prelude.{◌≡◌, ◌+◌, ◌*◌, ◌-◌, ◌^◌, ◌≤◌, ◌∷◌, ◌++◌, min, ℕ, List, [], length, take, IfOk};
 ghost use Rattle.otn_base.specs.declared.limits.TheConstants.{MOST_DELIVERED};
-ghost use Rattle.otn_ports.specs.OutPlace.{out_view};
-ghost use Rattle.otn_ports.specs.Views.{OutView};
+ghost use Rattle.port_base.specs.OutPlace.{out_view};
+ghost use Rattle.port_base.specs.Views.{OutView};
 ghost use Rattle.packet_text.specs.PacketText.{packet_line};
 ghost use Rattle.unbundle_command.specs.declared.channel.TheConstants.{ROOM};
 
 use otn_base::Memory;
 use otn_base::limits::MOST_DELIVERED;
-use otn_ports::{OutPlaceOf, Sink};
 use packet_text::ByteDigits;
+use port_base::{OutPlaceOf, Sink};
 use std::alloc::Global;
 use std::marker::Model;
 

@@ -1,10 +1,10 @@
 // The command: the channels of a line go to client outputs.
 ghost use Rattle.std.specs.Prelude.{◌≡◌, ◌≢◌, ◌+◌, ◌≤◌, ℕ, IfOk, vec_len};
 ghost use Rattle.otn_base.specs.declared.limits.TheConstants.{GROUPS, MOST_TURNS};
-ghost use Rattle.otn_ports.specs.Bytes.{HasFailed};
-ghost use Rattle.otn_ports.specs.PortViews.{sink_view};
-ghost use Rattle.otn_ports.specs.Racks.{bays_view};
-ghost use Rattle.otn_ports.specs.Views.{BaysView};
+ghost use Rattle.port_base.specs.Bytes.{HasFailed};
+ghost use Rattle.port_base.specs.PortViews.{sink_view};
+ghost use Rattle.port_base.specs.Racks.{bays_view};
+ghost use Rattle.port_base.specs.Views.{BaysView};
 ghost use Rattle.unbundle_command.specs.Unbundling.{OnlyUnbundled};
 ghost use Rattle.unbundle_command.specs.Steps.Unbundling.{IsReady, TurnsGone};
 ghost use Rattle.unbundle_command.specs.UnbundleLeft.{UnbundleRan};
@@ -12,7 +12,7 @@ ghost use Rattle.unbundle_command.specs.UnbundleLeft.{UnbundleRan};
 use crate::settling::settle;
 use crate::unbundling::Unbundling;
 use otn_base::limits::GROUPS;
-use otn_ports::{Ended, Rack, Sink, Source};
+use port_base::{Ended, Rack, Sink, Source};
 use std::alloc::{AllocError, Global};
 
 /// Takes the ODU0 of slot 1 and port 1 from line input 0, a plain OTU2, in each of so many turns, 1 to 16,384, and

@@ -1,8 +1,8 @@
 // The channels with a client output, by CID, and how much arrived on others.
 ghost use Rattle.std.specs.Prelude.{◌≡◌, ◌+◌, ◌-◌, ◌^◌, ◌<◌, ◌≤◌, ◌∷◌, ◌++◌, min, nat_lt, ℕ, List, [], length, IfOk, replicate, vec_len};
 ghost use Rattle.otn_base.specs.declared.limits.TheConstants.{CLIENTS, MOST_DELIVERED};
-ghost use Rattle.otn_ports.specs.Racks.{bays_view};
-ghost use Rattle.otn_ports.specs.Views.{BaysView};
+ghost use Rattle.port_base.specs.Racks.{bays_view};
+ghost use Rattle.port_base.specs.Views.{BaysView};
 ghost use Rattle.gfp_linear.specs.ChannelArrivals.{ChannelArrival, PacketOn, LossOn, IsSized, seen};
 ghost use Rattle.unbundle_command.specs.Steps.Receiving.{no_channel, ChannelsStand, OnlyClientsOut};
 
@@ -10,8 +10,8 @@ use crate::channel::Channel;
 use gfp_linear::Arrival;
 use otn_base::Memory;
 use otn_base::limits::CLIENTS;
-use otn_ports::{Rack, Sink, Source};
 use packet_text::ByteDigits;
+use port_base::{Rack, Sink, Source};
 use std::alloc::Global;
 use std::marker::Model;
 

@@ -3,8 +3,8 @@ ghost use Rattle.std.specs.Prelude.{◌≡◌, ◌≤◌, ◌++◌, ℕ, List, [
 ghost use Rattle.odu_client.specs.AlignedRuns.{Arrival, payload_of};
 ghost use Rattle.odu_client.specs.Aligner.{news};
 ghost use Rattle.odu_client.specs.View.{aligner_state};
-ghost use Rattle.otn_ports.specs.Racks.{bays_view};
-ghost use Rattle.otn_ports.specs.Views.{BaysView};
+ghost use Rattle.port_base.specs.Racks.{bays_view};
+ghost use Rattle.port_base.specs.Views.{BaysView};
 ghost use Rattle.gfp_linear.specs.ChannelArrivals.{ChannelArrival};
 ghost use Rattle.unbundle_command.specs.Steps.Receiving.{RunRead, AllRead, HoldsAfter, OnlyClientsOut};
 
@@ -13,7 +13,7 @@ use frame_geometry::Frame;
 use gfp_linear::ChannelReader;
 use odu_client::{Aligned, ClientAligner};
 use otn_base::limits::CLIENT_COLUMNS;
-use otn_ports::{Rack, Sink, Source};
+use port_base::{Rack, Sink, Source};
 
 /// Takes bytes of a client, finds the client frames in them, and the linear GFP frames in the payload of those that are
 /// handed on; each break begins the reader anew. The packets that arrive are due to the client outputs.

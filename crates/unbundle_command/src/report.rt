@@ -3,9 +3,9 @@ ghost use Rattle.std.specs.Prelude.{◌≡◌, ◌≢◌, ◌≤◌, ◌+◌, �
 ghost use Rattle.std.specs.Fmt.{decimal};
 ghost use Rattle.arrayvec.specs.ArrayString.{array_string_len};
 ghost use Rattle.otn_base.specs.declared.limits.TheConstants.{CLIENTS};
-ghost use Rattle.otn_ports.specs.Bytes.{HasFailed};
-ghost use Rattle.otn_ports.specs.PortViews.{sink_view, SinkWrites};
-ghost use Rattle.otn_ports.specs.Views.{BaysView};
+ghost use Rattle.port_base.specs.Bytes.{HasFailed};
+ghost use Rattle.port_base.specs.PortViews.{sink_view, SinkWrites};
+ghost use Rattle.port_base.specs.Views.{BaysView};
 ghost use Rattle.gfp_linear.specs.ChannelArrivals.{ChannelArrival};
 ghost use Rattle.unbundle_command.specs.Steps.Receiving.{OutputsStand};
 ghost use Rattle.unbundle_command.specs.Unbundled.{channel_line, channel_lines, channel_text, report_text};
@@ -15,7 +15,7 @@ use crate::outputs::Outputs;
 use arrayvec::ArrayString;
 use itoa::Buffer;
 use otn_base::limits::CLIENTS;
-use otn_ports::{Sink, Written, write_whole};
+use port_base::{Sink, Written, write_whole};
 
 // The numbers of the line of a channel, in order, each after its label: a further one is one more row here. `put` puts
 // them into a text, `width` says how many bytes they take at most.

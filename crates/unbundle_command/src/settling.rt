@@ -1,10 +1,10 @@
 // The end of the command: whether the line has more than its turns want, the report, and whether a place is dead.
 ghost use Rattle.std.specs.Prelude.{◌≡◌, ◌≢◌, ◌<◌, ◌≤◌, ℕ, true, false};
 ghost use Rattle.otn_base.specs.declared.limits.TheConstants.{CLIENTS, MOST_TURNS};
-ghost use Rattle.otn_ports.specs.PortViews.{sink_view};
-ghost use Rattle.otn_ports.specs.Bytes.{HasFailed};
-ghost use Rattle.otn_ports.specs.Racks.{bays_view};
-ghost use Rattle.otn_ports.specs.Views.{BaysView, Dead, client_out_at};
+ghost use Rattle.port_base.specs.PortViews.{sink_view};
+ghost use Rattle.port_base.specs.Bytes.{HasFailed};
+ghost use Rattle.port_base.specs.Racks.{bays_view};
+ghost use Rattle.port_base.specs.Views.{BaysView, Dead, client_out_at};
 ghost use Rattle.unbundle_command.specs.Steps.Receiving.{channel_at};
 ghost use Rattle.unbundle_command.specs.Unbundling.{OnlyUnbundled};
 ghost use Rattle.unbundle_command.specs.Steps.Unbundling.{TurnsGone, IsReady, DeadChannel, HasDead, IsDeadAt};
@@ -14,7 +14,7 @@ use crate::outputs::Outputs;
 use crate::report::write_report;
 use crate::unbundling::Unbundling;
 use otn_base::limits::CLIENTS;
-use otn_ports::{Ended, Rack, Sink, Source, Written};
+use port_base::{Ended, Rack, Sink, Source, Written};
 use tributary_line::{ended_by, is_dead_in, is_dead_out};
 
 /// After the last turn: the line is asked for one byte more, where its end was not seen; all lines of packets leave,

@@ -1,15 +1,15 @@
 // The turns of the command: a sink of the line, and what becomes of the bytes that it emits.
 ghost use Rattle.std.specs.Prelude.{◌≡◌, ◌+◌, ◌*◌, ℕ, List, ◌∷◌, [], IfOk, vec_len};
 ghost use Rattle.otn_base.specs.declared.limits.TheConstants.{GROUPS};
-ghost use Rattle.otn_ports.specs.Racks.{bays_view};
-ghost use Rattle.otn_ports.specs.Views.{BaysView};
+ghost use Rattle.port_base.specs.Racks.{bays_view};
+ghost use Rattle.port_base.specs.Views.{BaysView};
 
 use crate::outputs::Outputs;
 use crate::receiving::take_all;
 use gfp_linear::ChannelReader;
 use odu_client::ClientAligner;
 use otn_base::{LineKind, Memory, Slots};
-use otn_ports::{Rack, Sink, Source};
+use port_base::{Rack, Sink, Source};
 use std::alloc::Global;
 use tributary_line::Tap;
 

@@ -1,7 +1,7 @@
 -- Two counts of faults taken together, as far as 64 bits go.
 use Rattle.std.proofs.Common.{◌≡◌, ◌⊎◌, inl, inr, ◌<◌, ◌≤◌, ◌+◌, ◌-◌, ◌^◌, min, ℕ, arith, refl}
 use Rattle.std.proofs.lemmas.Bool.{cases_lt}
-use Rattle.otn_ports.specs.Bytes.{HasFailed}
+use Rattle.port_base.specs.Bytes.{HasFailed}
 
 pub later_faults : (a b m n : ℕ) → a ≤ b → m ≤ n → min (a + m) (2 ^ 64 - 1) ≤ min (b + n) (2 ^ 64 - 1)
 later_faults a b m n h k = omega arith

@@ -2,9 +2,9 @@
 -- is as it was.
 use Rattle.std.specs.Prelude.{◌≡◌, ◌≤◌, ℕ, Result, Ok, Err}
 use Rattle.otn_base.specs.declared.memory.Memory.{Memory as NoMemory}
-use Rattle.otn_ports.specs.Bytes.{HasFailed}
-use Rattle.otn_ports.specs.declared.drain.Written.{Written}
-use Rattle.otn_ports.specs.declared.drain.Written.TheVariants.{Whole, Lost}
+use Rattle.port_base.specs.Bytes.{HasFailed}
+use Rattle.port_base.specs.declared.drain.Written.{Written}
+use Rattle.port_base.specs.declared.drain.Written.TheVariants.{Whole, Lost}
 
 abbrev pub FailsBy : Written → (old new : ℕ) → Type 0
 FailsBy Whole old new = new ≡ old

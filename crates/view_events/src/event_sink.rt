@@ -1,10 +1,10 @@
 // A sink that writes the events of a view.
 ghost use Rattle.std.specs.Prelude.{◌≡◌, ◌<◌, ◌≤◌, None, false, IsErr, OnErr, length};
-ghost use Rattle.otn_ports.specs.Bytes.{HasFailed};
+ghost use Rattle.port_base.specs.Bytes.{HasFailed};
 
 use crate::events::Events;
 use arrayvec::ArrayVec;
-use otn_ports::{Failed, Sink, Written};
+use port_base::{Failed, Sink, Written};
 use std::alloc::Global;
 
 // Room for a line of a view.

@@ -3,7 +3,7 @@ ghost use Rattle.view_events.specs.Reporting.{FailsBy};
 
 use arrayvec::ArrayVec;
 use itoa::Buffer;
-use otn_ports::{Sink, Written, write_whole};
+use port_base::{Sink, Written, write_whole};
 
 /// Room for a line.
 const ROOM: usize = 1024;

@@ -7,7 +7,7 @@ use crate::tributary_events::TributaryEvents;
 use crate::words::{number_of, word_of};
 use arrayvec::ArrayVec;
 use otn_base::Memory;
-use otn_ports::{Sink, Written, write_whole};
+use port_base::{Sink, Written, write_whole};
 use std::alloc::Global;
 
 /// What was told so far.

@@ -3,7 +3,7 @@ ghost use Rattle.view_events.specs.Reporting.{FailsBy};
 
 use crate::event_text::EventText;
 use crate::words::{number_of, word_of};
-use otn_ports::{Sink, Written};
+use port_base::{Sink, Written};
 
 /// How a turn is aligned.
 #[derive(Clone, Copy, Debug, PartialEq, Eq)]

@@ -7,7 +7,7 @@ use crate::line_events::turn_text;
 use crate::words::{byte_of, number_of, word_of};
 use arrayvec::ArrayVec;
 use otn_base::limits::MOST_SLOTS;
-use otn_ports::{Sink, Written};
+use port_base::{Sink, Written};
 
 // Slots are numbered from 1.
 const SLOTS: usize = MOST_SLOTS + 1;

@@ -6,7 +6,7 @@ use crate::line_events::turn_text;
 use crate::slot_events::Came;
 use crate::words::{number_of, word_of};
 use otn_base::limits::MOST_SLOTS;
-use otn_ports::{Sink, Written};
+use port_base::{Sink, Written};
 use std::alloc::{AllocError, Global};
 
 // Slots are numbered from 1.

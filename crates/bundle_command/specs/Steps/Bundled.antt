@@ -2,7 +2,7 @@
 use Rattle.std.specs.Prelude.{◌≡◌, ◌≢◌, ◌*◌, ◌<◌, ◌≤◌, ◌/◌, ℕ, nat_le, ◌&&◌, ◌||◌, Bool, true, false, List, [], length}
 use Rattle.std.specs.List.{list_all}
 use Rattle.otn_base.specs.declared.limits.TheConstants.{NOMINAL}
-use Rattle.otn_ports.specs.Views.{State, Empty, Live, Dead, BaysView, line_out_at}
+use Rattle.port_base.specs.Views.{State, Empty, Live, Dead, BaysView, line_out_at}
 use Rattle.tributary_line.specs.FeedTurn.{FeedStands}
 use Rattle.bundle_command.specs.BundleStream.{first_slot, parts_of, payload_whole}
 use Rattle.bundle_command.specs.BundleLeft.{OnlyBundled, place_of}
@@ -12,8 +12,8 @@ use Rattle.bundle_command.specs.declared.bundling.Bundling.{Bundling}
 use Rattle.bundle_command.specs.declared.channel.Channel.{Channel}
 use Rattle.bundle_command.specs.declared.channel.Standing.{Standing}
 use Rattle.bundle_command.specs.declared.channel.Standing.TheVariants.{Fresh, Going, Ended, Bad, Lost, More}
-use Rattle.otn_ports.specs.declared.ended.Ended.{Ended as End}
-use Rattle.otn_ports.specs.declared.ended.Ended.TheVariants.{Done, Unfinished, Cut}
+use Rattle.port_base.specs.declared.ended.Ended.{Ended as End}
+use Rattle.port_base.specs.declared.ended.Ended.TheVariants.{Done, Unfinished, Cut}
 use Rattle.bundle_command.specs.declared.weaving.Weaving.{Weaving}
 
 -- so many turns went by

@@ -2,8 +2,8 @@
 use Rattle.std.specs.Prelude.{◌≡◌, ◌≢◌, ◌⊎◌, ◌<◌, ◌≤◌, ◌*◌, ◌+◌, ◌-◌, ℕ, suc, nat_le, Bool, true, false, if◌then◌else◌, List, [], ◌∷◌, ◌++◌, Option, Some, None, length, set, slice_get, slice_index, take}
 use Rattle.std.specs.List.{Contains, list_all}
 use Rattle.otn_base.specs.Counts.{saturated}
-use Rattle.otn_ports.specs.Steps.OnePlace.{OnlyClientIn}
-use Rattle.otn_ports.specs.Views.{InView, BaysView, client_in_at}
+use Rattle.port_base.specs.Steps.OnePlace.{OnlyClientIn}
+use Rattle.port_base.specs.Views.{InView, BaysView, client_in_at}
 use Rattle.packet_text.specs.LinesStand.{LinesView, LinesStand, MayBe, lines_view}
 use Rattle.packet_text.specs.declared.line.Line.{Line}
 use Rattle.packet_text.specs.declared.line.Line.TheVariants as line

@@ -2,7 +2,7 @@
 use Rattle.std.specs.Prelude.{◌≡◌, ◌<◌, ◌*◌, ℕ, List, [], ◌++◌, drop, length}
 use Rattle.std.specs.List.{concat}
 use Rattle.otn_base.specs.declared.limits.TheConstants.{CLIENT_FRAME_BYTES, NOMINAL}
-use Rattle.otn_ports.specs.Views.{BaysView, line_out_at}
+use Rattle.port_base.specs.Views.{BaysView, line_out_at}
 use Rattle.odu_client.specs.ClientFrames.{client_frames}
 use Rattle.odu_client.specs.ClientOverhead.{HasMadeFrames}
 use Rattle.bundle_command.specs.Steps.Channels.{WeavingStands}

@@ -1,14 +1,14 @@
 -- Steps of `ended`, `are_ended` and others: the command at its end.
 use Rattle.std.specs.Prelude.{◌≡◌, ◌≢◌, ◌<◌, ◌-◌, ◌&&◌, ◌||◌, ℕ, Bool, true, false, not, List, [], ◌∷◌, ◌++◌, length, nat_le, set}
-use Rattle.otn_ports.specs.Steps.OnePlace.{OnlyClientIn}
-use Rattle.otn_ports.specs.Views.{is_dead, InView, BaysView, client_in_at, line_out_at}
+use Rattle.port_base.specs.Steps.OnePlace.{OnlyClientIn}
+use Rattle.port_base.specs.Views.{is_dead, InView, BaysView, client_in_at, line_out_at}
 use Rattle.gfp_linear.specs.Weaver.{Woven}
 use Rattle.tributary_line.specs.Settling.{ended_by}
 use Rattle.bundle_command.specs.BundleStream.{channel_line, payload_whole}
 use Rattle.bundle_command.specs.Steps.Channels.{Answered, ChannelStands, HasChannel, IsBegun, WeavingHas}
 use Rattle.bundle_command.specs.declared.channel.Channel.{Channel}
 use Rattle.bundle_command.specs.declared.channel.Standing.TheVariants as standing
-use Rattle.otn_ports.specs.declared.ended.Ended.{Ended}
+use Rattle.port_base.specs.declared.ended.Ended.{Ended}
 use Rattle.bundle_command.specs.declared.weaving.Weaving.{Weaving}
 
 -- The first channels, so many, were asked once more, where a packet was their last answer.

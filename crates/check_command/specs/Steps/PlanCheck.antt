@@ -1,6 +1,6 @@
 -- Steps of `tell_plan`: what private contracts alone cite, beside the definitions of `PlanCheck`.
 use Rattle.std.specs.Prelude.{◌≡◌, ℕ, List, Option}
-use Rattle.otn_ports.specs.Bytes.{after}
+use Rattle.port_base.specs.Bytes.{after}
 use Rattle.plan_file.specs.declared.plan.Plan.{Plan}
 use Rattle.command_base.specs.Gains.{GainsPart}
 use Rattle.command_base.specs.declared.status.Status.{Status}

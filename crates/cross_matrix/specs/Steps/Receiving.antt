@@ -1,7 +1,7 @@
 -- Steps of `hand_on`, `take_all` and others: what private contracts alone cite, beside the definitions of `Receiving`.
 use Rattle.std.specs.Prelude.{◌≡◌, ℕ, List, [], ◌++◌, length, flat_map}
-use Rattle.otn_ports.specs.Sent.{IsSent}
-use Rattle.otn_ports.specs.Views.{Dead, OutView}
+use Rattle.port_base.specs.Sent.{IsSent}
+use Rattle.port_base.specs.Views.{Dead, OutView}
 use Rattle.gfp_frames.specs.Delivered.{delivered}
 use Rattle.gfp_frames.specs.Reader.{ReaderState, HasRead}
 use Rattle.odu_client.specs.AlignedRuns.{Arrival, arrivals, runs_of}

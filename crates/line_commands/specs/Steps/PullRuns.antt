@@ -1,9 +1,9 @@
 -- Steps of `answer` and `write_turn`: what private contracts alone cite, beside the definitions of `PullRuns`.
 use Rattle.std.specs.Prelude.{◌≡◌, ◌≢◌, ◌<◌, ◌⊎◌, ℕ, Bool, true, false, List, [], Option, Some, None, length}
-use Rattle.otn_ports.specs.Bytes.{after}
-use Rattle.otn_ports.specs.Given.{Gave}
-use Rattle.otn_ports.specs.Reads.{HasEnded}
-use Rattle.otn_ports.specs.Views.{InView, Dead}
+use Rattle.port_base.specs.Bytes.{after}
+use Rattle.port_base.specs.Given.{Gave}
+use Rattle.port_base.specs.Reads.{HasEnded}
+use Rattle.port_base.specs.Views.{InView, Dead}
 use Rattle.line_side.specs.LineStands.{LineView}
 use Rattle.line_side.specs.declared.ending.Ending.TheVariants.{Seen}
 use Rattle.tributary_model.specs.Places.{Tributary}
@@ -11,8 +11,8 @@ use Rattle.command_base.specs.Gains.{GainsPart}
 use Rattle.tributary_line.specs.TapTurn.{TapView, TurnMoves}
 use Rattle.line_commands.specs.declared.pull.After.{After}
 use Rattle.line_commands.specs.declared.pull.After.TheVariants as next
-use Rattle.otn_ports.specs.declared.ended.Ended.{Ended}
-use Rattle.otn_ports.specs.declared.ended.Ended.TheVariants.{Done, Unfinished, Cut, ReportFault, Memory}
+use Rattle.port_base.specs.declared.ended.Ended.{Ended}
+use Rattle.port_base.specs.declared.ended.Ended.TheVariants.{Done, Unfinished, Cut, ReportFault, Memory}
 
 -- what a turn wrote of the bytes that it emitted
 abbrev pub TurnWrote : After → (ended : Bool) → (old new : Option (List ℕ)) → (emitted : List ℕ) → Type 0

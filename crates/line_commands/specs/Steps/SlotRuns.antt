@@ -1,18 +1,18 @@
 -- Steps of `write_some`, `write_frame` and `write_slot_of`: what private contracts alone cite, beside `SlotRuns`.
 use Rattle.std.specs.Prelude.{◌≡◌, ◌<◌, ◌≤◌, ◌*◌, ℕ, List, [], Option, Some, None, length}
 use Rattle.otn_base.specs.declared.limits.TheConstants.{LINE_FRAME_BYTES}
-use Rattle.otn_ports.specs.Bytes.{after}
-use Rattle.otn_ports.specs.Given.{Gave}
-use Rattle.otn_ports.specs.Reads.{HasEnded}
-use Rattle.otn_ports.specs.Views.{InView, Dead}
-use Rattle.otn_ports.specs.declared.drain.Written.{Written}
-use Rattle.otn_ports.specs.declared.drain.Written.TheVariants as written
+use Rattle.port_base.specs.Bytes.{after}
+use Rattle.port_base.specs.Given.{Gave}
+use Rattle.port_base.specs.Reads.{HasEnded}
+use Rattle.port_base.specs.Views.{InView, Dead}
+use Rattle.port_base.specs.declared.drain.Written.{Written}
+use Rattle.port_base.specs.declared.drain.Written.TheVariants as written
 use Rattle.command_base.specs.Gains.{GainsPart}
 use Rattle.line_commands.specs.SlotReport.{slot_bytes, slot_bytes_until, StoppedInFrame}
 use Rattle.line_commands.specs.declared.slot.Progress.{Progress}
 use Rattle.line_commands.specs.declared.slot.Progress.TheVariants.{Frames, Stopped}
-use Rattle.otn_ports.specs.declared.ended.Ended.{Ended}
-use Rattle.otn_ports.specs.declared.ended.Ended.TheVariants.{Done, Unfinished, Cut, ReportFault, Memory}
+use Rattle.port_base.specs.declared.ended.Ended.{Ended}
+use Rattle.port_base.specs.declared.ended.Ended.TheVariants.{Done, Unfinished, Cut, ReportFault, Memory}
 
 -- the answer of a step that took these bytes
 abbrev pub StepEnds : Option Ended → (slot : ℕ) → (read : List ℕ) → (first now : InView) → (old new : Option (List ℕ))

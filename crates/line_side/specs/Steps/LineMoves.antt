@@ -1,7 +1,7 @@
 -- Steps of `close`, `step` and others: what the moves of an input line within a piece do. `size` is the number of
 -- frames of a multiframe.
 use Rattle.std.specs.Prelude.{◌≡◌, ◌<◌, ◌+◌, ◌-◌, min, max, ℕ, Bool, true, false, if◌then◌else◌, List, length, nat_lt, option_map, Some, None, IsSome, slice_index}
-use Rattle.otn_ports.specs.Views.{InView}
+use Rattle.port_base.specs.Views.{InView}
 use Rattle.multiframe.specs.LineTurns.{Lock, one_if, looked_ahead, is_start, least_start}
 use Rattle.multiframe.specs.Alignment.{Alignment, aligned_at, with_frame, taken_of, EndsTurn}
 use Rattle.line_side.specs.LineFile.{frame_at, mfas_of, whole_frames}

@@ -1,8 +1,8 @@
 -- Steps of `join`: what private contracts alone cite, beside the definitions of `LineOutput`.
 use Rattle.std.specs.Prelude.{◌≡◌, ℕ, ◌+◌, ◌*◌, ◌%◌, List, ◌++◌, length}
 use Rattle.otn_base.specs.declared.limits.TheConstants.{LINE_FRAME_BYTES}
-use Rattle.otn_ports.specs.Sent.{IsSent}
-use Rattle.otn_ports.specs.Views.{OutView}
+use Rattle.port_base.specs.Sent.{IsSent}
+use Rattle.port_base.specs.Views.{OutView}
 use Rattle.line_side.specs.LineOutput.{counted_now}
 use Rattle.line_side.specs.declared.waiting.TheConstants.{FRAMES_TOGETHER}
 

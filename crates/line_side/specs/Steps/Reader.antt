@@ -2,12 +2,12 @@
 use Rattle.std.specs.Prelude.{◌≡◌, ◌≢◌, ◌<◌, ◌+◌, max, ℕ, Bool, true, false, List, [], ◌++◌, length, Option, Some, None}
 use Rattle.otn_base.specs.Counts.{saturated}
 use Rattle.otn_base.specs.declared.limits.TheConstants.{LINE_FRAME_BYTES}
-use Rattle.otn_ports.specs.Views.{InView, Live, Dead}
-use Rattle.otn_ports.specs.Given.{Gave}
-use Rattle.otn_ports.specs.Reads.{HasEnded}
-use Rattle.otn_ports.specs.declared.in_place.InPlaceOf.{InPlaceOf}
-use Rattle.otn_ports.specs.declared.in_place.Reading.{Reading}
-use Rattle.otn_ports.specs.declared.in_place.Reading.TheVariants.{Full, End, Lost}
+use Rattle.port_base.specs.Views.{InView, Live, Dead}
+use Rattle.port_base.specs.Given.{Gave}
+use Rattle.port_base.specs.Reads.{HasEnded}
+use Rattle.port_base.specs.declared.in_place.InPlaceOf.{InPlaceOf}
+use Rattle.port_base.specs.declared.in_place.Reading.{Reading}
+use Rattle.port_base.specs.declared.in_place.Reading.TheVariants.{Full, End, Lost}
 use Rattle.line_side.specs.LineForm.{through_mask}
 use Rattle.line_side.specs.LineFile.{frame_at, whole_frames, mfas_of}
 use Rattle.line_side.specs.Counted.{Counted}

@@ -1,12 +1,12 @@
 -- Steps of `finish`, `answer` and others: what private contracts alone cite, beside the definitions of `ViewRuns`.
 use Rattle.std.specs.Prelude.{◌≡◌, ◌≢◌, ◌<◌, ◌⊎◌, ◌+◌, if◌then◌else◌, ℕ, Bool, true, false, List, [], ◌++◌, length, flat_map}
-use Rattle.otn_ports.specs.Given.{Gave}
-use Rattle.otn_ports.specs.PortViews.{SinkView, SinkWrites}
-use Rattle.otn_ports.specs.Reads.{HasEnded}
-use Rattle.otn_ports.specs.Views.{InView, Dead}
-use Rattle.otn_ports.specs.declared.drain.Written.TheVariants as written
-use Rattle.otn_ports.specs.declared.ended.Ended.{Ended}
-use Rattle.otn_ports.specs.declared.ended.Ended.TheVariants.{Done, Unfinished, Cut, ReportFault, Memory}
+use Rattle.port_base.specs.Given.{Gave}
+use Rattle.port_base.specs.PortViews.{SinkView, SinkWrites}
+use Rattle.port_base.specs.Reads.{HasEnded}
+use Rattle.port_base.specs.Views.{InView, Dead}
+use Rattle.port_base.specs.declared.drain.Written.TheVariants as written
+use Rattle.port_base.specs.declared.ended.Ended.{Ended}
+use Rattle.port_base.specs.declared.ended.Ended.TheVariants.{Done, Unfinished, Cut, ReportFault, Memory}
 use Rattle.line_side.specs.LineForm.{LineForm}
 use Rattle.line_side.specs.LineStands.{LineView}
 use Rattle.line_side.specs.declared.ending.Ending.TheVariants.{Seen}

@@ -2,7 +2,7 @@
 -- between turns.
 use Rattle.std.specs.Prelude.{◌≡◌, ℕ, ◌+◌, Bool, true, false, List, [], ◌++◌, Some, map, slice_get}
 use Rattle.std.specs.List.{flat_map}
-use Rattle.otn_ports.specs.Views.{InView}
+use Rattle.port_base.specs.Views.{InView}
 use Rattle.line_side.specs.LineForm.{LineForm, size_of}
 use Rattle.line_side.specs.LineStands.{LineView, LineStands, frames_taken}
 use Rattle.line_side.specs.MayBe.{MayBe}

@@ -1,10 +1,10 @@
 -- Steps of `has_dead`, `ask_lines` and others: what private contracts alone cite, beside the definitions of `Asking`.
 use Rattle.std.specs.Prelude.{◌≡◌, ◌<◌, ℕ, Bool, true, false, ◌&&◌, not, nat_lt, List, Some, slice_get}
 use Rattle.otn_base.specs.declared.kind.PortName.{PortName}
-use Rattle.otn_ports.specs.Views.{BaysView, is_dead}
+use Rattle.port_base.specs.Views.{BaysView, is_dead}
 use Rattle.line_side.specs.LineStands.{LineView}
 use Rattle.odu_client.specs.ClientInput.{is_spent}
-use Rattle.otn_ports.specs.Asked.{has_come}
+use Rattle.port_base.specs.Asked.{has_come}
 use Rattle.device_model.specs.Outcomes.{place_state}
 use Rattle.device_model.specs.declared.outcome.Outcome.{Outcome}
 use Rattle.device_model.specs.declared.outcome.Outcome.TheVariants.{Done, Unfinished, Cut}

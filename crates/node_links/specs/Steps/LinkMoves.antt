@@ -2,7 +2,7 @@
 use Rattle.std.specs.Prelude.{◌≡◌, ◌<◌, ◌+◌, ℕ, suc, Bool, true, false, List, [], length, Option, Some, None, slice_get}
 use Rattle.otn_base.specs.LineSlots.{LineSlots, slots_of}
 use Rattle.maintenance_signals.specs.declared.signal.Signal.{Signal}
-use Rattle.otn_ports.specs.Views.{InView, OutView}
+use Rattle.port_base.specs.Views.{InView, OutView}
 use Rattle.plan_file.specs.declared.connection.Connection.{Connection}
 use Rattle.plan_file.specs.declared.connection.FromEnd.{FromEnd}
 use Rattle.plan_file.specs.declared.connection.FromEnd.TheVariants as from_end

@@ -1,7 +1,7 @@
 -- Steps of `retire_link`, `retire_ends` and others: what private contracts alone cite, beside the definitions of
 -- `Retiring`.
 use Rattle.std.specs.Prelude.{◌≡◌, ℕ, Bool}
-use Rattle.otn_ports.specs.Views.{BaysView, client_in_at, client_out_at}
+use Rattle.port_base.specs.Views.{BaysView, client_in_at, client_out_at}
 use Rattle.device_model.specs.RetiredPlaces.{after_retire, out_after_retire}
 
 -- these client places were emptied, where they were live, and all others are as they were

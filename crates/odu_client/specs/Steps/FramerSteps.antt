@@ -1,6 +1,6 @@
 -- Steps of `have_frame` and `give`: what private contracts alone cite, beside the definitions of `FramerSteps`.
 use Rattle.std.specs.Prelude.{◌≡◌, ℕ, List, ◌++◌}
-use Rattle.otn_ports.specs.Views.{InView}
+use Rattle.port_base.specs.Views.{InView}
 use Rattle.packet_text.specs.LinesStand.{LinesView, MayBe}
 use Rattle.odu_client.specs.Framing.{FramerState, TextStands, Framed}
 

@@ -1,6 +1,6 @@
 -- Steps of `ask`, `fill_payload` and others: what private contracts alone cite, beside the definitions of `Framing`.
 use Rattle.std.specs.Prelude.{◌≡◌, ◌≢◌, ◌≤◌, ℕ, Bool, List, [], ◌∷◌, ◌++◌, Option, Some, length}
-use Rattle.otn_ports.specs.Views.{InView}
+use Rattle.port_base.specs.Views.{InView}
 use Rattle.gfp_frames.specs.GfpText.{stream_frames}
 use Rattle.gfp_frames.specs.Maker.{HasMade, idle_bytes}
 use Rattle.frame_geometry.specs.PayloadParity.{payload_parity_of}

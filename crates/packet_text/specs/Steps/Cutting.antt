@@ -1,8 +1,8 @@
 -- Steps of `next`, `go_on` and `read_block`: what private contracts alone cite, beside the definitions of `Cutting`.
 use Rattle.std.specs.Prelude.{◌≡◌, ◌≢◌, ◌<◌, ◌≤◌, ◌⊎◌, ◌%◌, ℕ, Bool, true, false, List, [], ◌∷◌, ◌++◌, length}
-use Rattle.otn_ports.specs.Views.{InView, Live, Dead}
-use Rattle.otn_ports.specs.Given.{Gave}
-use Rattle.otn_ports.specs.Reads.{HasEnded}
+use Rattle.port_base.specs.Views.{InView, Live, Dead}
+use Rattle.port_base.specs.Given.{Gave}
+use Rattle.port_base.specs.Reads.{HasEnded}
 use Rattle.packet_text.specs.TextLines.{has_lf}
 use Rattle.packet_text.specs.declared.cutter.Cut.{Cut}
 use Rattle.packet_text.specs.declared.cutter.Cut.TheVariants.{Line, Last, Long, End, Lost}

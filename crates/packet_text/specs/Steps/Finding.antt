@@ -1,8 +1,8 @@
 -- Steps of `judge`, `find` and others: what a search for the next line that counts finds.
 use Rattle.std.specs.Prelude.{◌≡◌, ◌≢◌, ◌+◌, ℕ, Bool, true, false, List, [], ◌∷◌, ◌++◌, length, Some, None}
-use Rattle.otn_ports.specs.Views.{InView, Live}
-use Rattle.otn_ports.specs.Given.{Gave}
-use Rattle.otn_ports.specs.Reads.{HasEnded}
+use Rattle.port_base.specs.Views.{InView, Live}
+use Rattle.port_base.specs.Given.{Gave}
+use Rattle.port_base.specs.Reads.{HasEnded}
 use Rattle.packet_text.specs.PacketText.{line_gives, empty_lines}
 use Rattle.packet_text.specs.LinesStand.{LinesView, GoesOn, ReadAsNeeded, LinesStand, given_by}
 use Rattle.otn_base.specs.Counts.{saturated}

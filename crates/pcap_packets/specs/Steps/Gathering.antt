@@ -1,8 +1,8 @@
 -- Steps of `write_lines`, `gather` and others: lines whose records leave together.
 use Rattle.std.specs.Prelude.{ℕ, ◌≡◌, ◌<◌, ◌+◌, ◌&&◌, nat_le, Bool, true, List, [], ◌∷◌, ◌++◌, length, take, drop, Option}
-use Rattle.otn_ports.specs.Bytes.{after}
-use Rattle.otn_ports.specs.declared.drain.Written.{Written}
-use Rattle.otn_ports.specs.declared.drain.Written.TheVariants.{Whole, Lost}
+use Rattle.port_base.specs.Bytes.{after}
+use Rattle.port_base.specs.declared.drain.Written.{Written}
+use Rattle.port_base.specs.declared.drain.Written.TheVariants.{Whole, Lost}
 use Rattle.pcap_packets.specs.Written.{all_lower, is_line, packet_of, record_of}
 
 -- the digits of a line that gives a record: of lower case, some, of even count, as many as a line may have at most

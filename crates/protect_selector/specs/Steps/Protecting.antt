@@ -1,13 +1,13 @@
 -- Steps of `run_turns`, `new` and others: what private contracts alone cite, beside the definitions of `Protecting`.
 use Rattle.std.specs.Prelude.{◌≡◌, ◌<◌, ℕ, suc, Bool, false, not, ◌||◌, List, ◌++◌, length, take}
 use Rattle.otn_base.specs.declared.line_kind.LineKind.TheVariants.{Otu2}
-use Rattle.otn_ports.specs.PortViews.{SinkGot}
-use Rattle.otn_ports.specs.declared.drain.Written.{Written}
-use Rattle.otn_ports.specs.declared.drain.Written.TheVariants as written
-use Rattle.otn_ports.specs.Asked.{ByteAsked, has_come}
-use Rattle.otn_ports.specs.Views.{is_dead}
+use Rattle.port_base.specs.PortViews.{SinkGot}
+use Rattle.port_base.specs.declared.drain.Written.{Written}
+use Rattle.port_base.specs.declared.drain.Written.TheVariants as written
+use Rattle.port_base.specs.Asked.{ByteAsked, has_come}
+use Rattle.port_base.specs.Views.{is_dead}
 use Rattle.device_model.specs.LineAsked.{is_seen}
-use Rattle.otn_ports.specs.declared.ended.Ended.{Ended}
+use Rattle.port_base.specs.declared.ended.Ended.{Ended}
 use Rattle.line_side.specs.MayBe.{MayBe}
 use Rattle.tributary_model.specs.Laws.{IsTributary}
 use Rattle.tributary_model.specs.Places.{Tributary}

@@ -1,8 +1,8 @@
 -- Steps of `carry_plan`: what private contracts alone cite, beside the definitions of `PlanRuns`.
 use Rattle.std.specs.Prelude.{◌≡◌, ℕ, Ok}
-use Rattle.otn_ports.specs.Bytes.{raised}
-use Rattle.otn_ports.specs.PortViews.{SinkView, SinkLater}
-use Rattle.otn_ports.specs.Views.{BaysView}
+use Rattle.port_base.specs.Bytes.{raised}
+use Rattle.port_base.specs.PortViews.{SinkView, SinkLater}
+use Rattle.port_base.specs.Views.{BaysView}
 use Rattle.plan_file.specs.declared.plan.Plan.{Plan}
 use Rattle.device_model.specs.Report.{Numbers, report_text}
 use Rattle.device_model.specs.declared.outcome.Outcome.{Outcome}

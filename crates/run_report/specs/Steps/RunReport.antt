@@ -3,7 +3,7 @@ use Rattle.std.specs.Prelude.{ℕ, List}
 use Rattle.otn_base.specs.declared.kind.PortName.{PortName}
 use Rattle.otn_base.specs.declared.kind.PortName.TheVariants as port
 use Rattle.otn_base.specs.declared.limits.TheConstants.{CLIENTS, LINES}
-use Rattle.otn_ports.specs.Views.{BaysView, State}
+use Rattle.port_base.specs.Views.{BaysView, State}
 use Rattle.device_model.specs.Outcomes.{place_state}
 use Rattle.device_model.specs.Report.{Numbers, line_in_line, line_out_line, client_in_line, client_out_line}
 use Rattle.run_report.specs.declared.port_kind.PortKind.{PortKind}

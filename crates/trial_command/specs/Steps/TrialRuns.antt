@@ -2,8 +2,8 @@
 -- `TrialRuns`.
 use Rattle.std.specs.Prelude.{◌≡◌, ℕ, ◌<◌, List, Some, All, length}
 use Rattle.std.specs.List.{concat}
-use Rattle.otn_ports.specs.Bytes.{raised}
-use Rattle.otn_ports.specs.Views.{Live, OutView, BaysView, line_in_at, line_out_at, client_in_at, client_out_at}
+use Rattle.port_base.specs.Bytes.{raised}
+use Rattle.port_base.specs.Views.{Live, OutView, BaysView, line_in_at, line_out_at, client_in_at, client_out_at}
 use Rattle.device_model.specs.LineFiles.{IsLineFile}
 use Rattle.device_model.specs.Report.{Numbers}
 use Rattle.device_model.specs.Through.{Inputs, own_input, text_by}

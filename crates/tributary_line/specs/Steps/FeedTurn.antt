@@ -3,7 +3,7 @@
 use Rattle.std.specs.Prelude.{◌≡◌, ℕ, ◌+◌, ◌-◌, ◌*◌, ◌≤◌, List, IsSome, length}
 use Rattle.otn_base.specs.declared.limits.TheConstants.{LINE_COLUMNS, LINE_FRAME_BYTES, OTU2_SLOTS, ROWS}
 use Rattle.otn_base.specs.declared.line_kind.LineKind.TheVariants.{Otu2}
-use Rattle.otn_ports.specs.Views.{OutView}
+use Rattle.port_base.specs.Views.{OutView}
 use Rattle.tributary_model.specs.Places.{Tributary, tributary_of, byte_at}
 use Rattle.tributary_model.specs.Puts.{IsPut, IsSourcePlace}
 use Rattle.trib_source.specs.Source.{Source, StandsAfter}

@@ -1,6 +1,6 @@
 -- Steps of `take_frames` and `take_piece`: what private contracts alone cite, beside the definitions of `TapTurn`.
 use Rattle.std.specs.Prelude.{ℕ, ◌+◌, false, List, ◌++◌}
-use Rattle.otn_ports.specs.Views.{InView}
+use Rattle.port_base.specs.Views.{InView}
 use Rattle.line_side.specs.MayBe.{MayBe}
 use Rattle.tributary_model.specs.Places.{Tributary}
 use Rattle.tributary_line.specs.TapTurn.{TapView, TapStands}

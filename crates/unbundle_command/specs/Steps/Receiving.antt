@@ -2,8 +2,8 @@
 use Rattle.std.specs.Prelude.{◌≡◌, ◌<◌, ℕ, List, [], ◌∷◌, ◌++◌, flat_map, get_or}
 use Rattle.otn_base.specs.Counts.{saturated}
 use Rattle.otn_base.specs.declared.limits.TheConstants.{CLIENTS}
-use Rattle.otn_ports.specs.Sent.{IsSent}
-use Rattle.otn_ports.specs.Views.{OutView, BaysView, client_out_at}
+use Rattle.port_base.specs.Sent.{IsSent}
+use Rattle.port_base.specs.Views.{OutView, BaysView, client_out_at}
 use Rattle.packet_text.specs.PacketText.{hex_text}
 use Rattle.gfp_frames.specs.Reader.{ReaderState, HasRead}
 use Rattle.gfp_linear.specs.ChannelArrivals.{ChannelArrival, channel_arrivals}

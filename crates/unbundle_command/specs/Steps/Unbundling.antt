@@ -3,7 +3,7 @@
 use Rattle.std.specs.Prelude.{◌≡◌, ◌⊎◌, ◌<◌, ◌≤◌, ◌+◌, ◌*◌, ℕ, suc, false, List, [], ◌∷◌, ◌++◌, length}
 use Rattle.otn_base.specs.declared.limits.TheConstants.{CLIENTS, GROUPS}
 use Rattle.otn_base.specs.declared.line_kind.LineKind.TheVariants.{Otu2}
-use Rattle.otn_ports.specs.Views.{Dead, BaysView, line_in_at, client_out_at}
+use Rattle.port_base.specs.Views.{Dead, BaysView, line_in_at, client_out_at}
 use Rattle.line_side.specs.MayBe.{MayBe}
 use Rattle.tributary_line.specs.TapTurn.{TapStands, IsBetweenTurns}
 use Rattle.odu_client.specs.View.{aligner_state}

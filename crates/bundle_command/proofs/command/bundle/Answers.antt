@@ -1,4 +1,4 @@
-use Rattle.otn_ports.specs.Racks.{bays_view}
+use Rattle.port_base.specs.Racks.{bays_view}
 use Rattle.bundle_command.proofs.command.bundle.Goals as goal
 
 pub run_turns-requires-clause-ready : goal.run_turns-requires-clause-ready

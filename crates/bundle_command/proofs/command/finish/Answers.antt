@@ -1,7 +1,7 @@
 use Rattle.std.proofs.Common.{◌≡◌, ◌<◌, ℕ, inl, inr, refl, rules, subst, sym}
-use Rattle.otn_ports.specs.PortViews.{SinkWrites, sink_view}
-use Rattle.otn_ports.specs.Racks.{bays_view}
-use Rattle.otn_ports.specs.declared.drain.Written.TheVariants as written
+use Rattle.port_base.specs.PortViews.{SinkWrites, sink_view}
+use Rattle.port_base.specs.Racks.{bays_view}
+use Rattle.port_base.specs.declared.drain.Written.TheVariants as written
 use Rattle.bundle_command.specs.Steps.Channels.{HasChannel}
 use Rattle.bundle_command.specs.Steps.Settled.{lines_of}
 use Rattle.bundle_command.specs.declared.channel.Channel.{Channel}

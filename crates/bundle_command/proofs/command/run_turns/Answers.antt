@@ -1,5 +1,5 @@
 use Rattle.std.proofs.Common.{◌≡◌, ◌∙◌, arith, subst}
-use Rattle.otn_ports.specs.Racks.{bays_view}
+use Rattle.port_base.specs.Racks.{bays_view}
 use Rattle.bundle_command.specs.Steps.Bundled.{TurnsGone}
 use Rattle.bundle_command.proofs.Turning.{can_turn_on}
 use Rattle.bundle_command.proofs.command.run_turns.Goals as goal

@@ -1,7 +1,7 @@
 use Rattle.std.proofs.Common.{◌≡◌, [], ◌∷◌, ℕ, List, vec_len}
 use Rattle.otn_base.specs.declared.line_kind.LineKind.TheVariants.{Otu2}
-use Rattle.otn_ports.specs.Racks.{bays_view}
-use Rattle.otn_ports.specs.Views.{BaysView}
+use Rattle.port_base.specs.Racks.{bays_view}
+use Rattle.port_base.specs.Views.{BaysView}
 use Rattle.bundle_command.specs.Steps.Bundled.{CanTurn, TurnsGone}
 use Rattle.bundle_command.proofs.command.run_turns.Given as goal
 

@@ -1,7 +1,7 @@
 use Rattle.std.proofs.Common.{◌≡◌, arith, rules, subst}
-use Rattle.otn_ports.specs.PortViews.{SinkWrites, sink_view}
-use Rattle.otn_ports.specs.Racks.{bays_view}
-use Rattle.otn_ports.specs.declared.drain.Written.TheVariants as written
+use Rattle.port_base.specs.PortViews.{SinkWrites, sink_view}
+use Rattle.port_base.specs.Racks.{bays_view}
+use Rattle.port_base.specs.declared.drain.Written.TheVariants as written
 use Rattle.bundle_command.specs.Steps.Settled.{line_of}
 use Rattle.bundle_command.proofs.Lists.{known_item, wrote_all, wrote_lost, wrote_none, wrote_one}
 use Rattle.bundle_command.proofs.report_line.write_channels.Goals as goal

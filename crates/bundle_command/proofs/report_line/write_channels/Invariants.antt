@@ -1,5 +1,5 @@
-use Rattle.otn_ports.specs.PortViews.{sink_view}
-use Rattle.otn_ports.specs.Racks.{bays_view}
+use Rattle.port_base.specs.PortViews.{sink_view}
+use Rattle.port_base.specs.Racks.{bays_view}
 use Rattle.bundle_command.proofs.Lists.{Wrote}
 use Rattle.bundle_command.proofs.report_line.write_channels.Given as goal
 

@@ -1,7 +1,7 @@
 use Rattle.std.proofs.Common.{◌≡◌, ◌∙◌, ap, arith, false, sym}
-use Rattle.otn_ports.proofs.BaysLaws.{client_in_seen}
-use Rattle.otn_ports.specs.Racks.{bays_view}
-use Rattle.otn_ports.specs.Views.{is_dead, InView, client_in_at}
+use Rattle.port_base.proofs.BaysLaws.{client_in_seen}
+use Rattle.port_base.specs.Racks.{bays_view}
+use Rattle.port_base.specs.Views.{is_dead, InView, client_in_at}
 use Rattle.bundle_command.proofs.Lists.{known_item, none_dead, one_more, some_dead}
 use Rattle.bundle_command.proofs.settling.has_dead.Goals as goal
 

@@ -1,6 +1,6 @@
 use Rattle.std.proofs.Common.{◌≡◌, ◌<◌, ℕ, false}
-use Rattle.otn_ports.specs.Racks.{bays_view}
-use Rattle.otn_ports.specs.Views.{is_dead, client_in_at}
+use Rattle.port_base.specs.Racks.{bays_view}
+use Rattle.port_base.specs.Views.{is_dead, client_in_at}
 use Rattle.bundle_command.specs.Steps.Channels.{HasChannel}
 use Rattle.bundle_command.specs.declared.channel.Channel.{Channel}
 use Rattle.bundle_command.proofs.settling.has_dead.Given as goal

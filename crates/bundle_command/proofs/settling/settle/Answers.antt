@@ -1,5 +1,5 @@
 use Rattle.std.proofs.Common.{◌≡◌, ◌∙◌, length, refl, sym, subst, add-one, arith, rules}
-use Rattle.otn_ports.specs.Racks.{bays_view}
+use Rattle.port_base.specs.Racks.{bays_view}
 use Rattle.bundle_command.specs.Steps.Settled.{IsSettled}
 use Rattle.bundle_command.proofs.AtEnd.{none_settled, place_low, settles}
 use Rattle.bundle_command.proofs.Given.{only_none, only_twice}

@@ -1,6 +1,6 @@
 use Rattle.std.proofs.Common.{◌≡◌, ℕ, List, vec_len}
-use Rattle.otn_ports.specs.Racks.{bays_view}
-use Rattle.otn_ports.specs.Views.{BaysView}
+use Rattle.port_base.specs.Racks.{bays_view}
+use Rattle.port_base.specs.Views.{BaysView}
 use Rattle.bundle_command.specs.Steps.Channels.{WeavingStands}
 use Rattle.bundle_command.specs.Steps.Framed.{OnlyInputs}
 use Rattle.bundle_command.specs.Steps.Settled.{IsSettled}

@@ -1,5 +1,5 @@
 use Rattle.std.proofs.Common.{◌∙◌, Ok, ap, subst}
-use Rattle.otn_ports.specs.PortViews.{sink_view, source_view}
+use Rattle.port_base.specs.PortViews.{sink_view, source_view}
 use Rattle.check_command.specs.PlanReading.{PlanReading}
 use Rattle.check_command.proofs.PlanChecks.{accepted_check}
 use Rattle.check_command.proofs.check.check_plan.Goals as goal

@@ -1,6 +1,6 @@
 use Rattle.std.specs.Prelude.{flat_map}
 use Rattle.gfp_frames.specs.Delivered.{delivered}
-use Rattle.otn_ports.specs.OutPlace.{out_view}
+use Rattle.port_base.specs.OutPlace.{out_view}
 use Rattle.cross_matrix.proofs.Runs.{before, open_run, goes_on, whole_read, break_read}
 use Rattle.cross_matrix.proofs.receiver.hand_on.Goals as goal
 

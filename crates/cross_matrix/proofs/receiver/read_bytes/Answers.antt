@@ -1,5 +1,5 @@
 use Rattle.std.proofs.Common.{rules, ◌+◌, ◌-◌, ◌++◌, length, take, drop}
-use Rattle.otn_ports.specs.OutPlace.{out_view}
+use Rattle.port_base.specs.OutPlace.{out_view}
 use Rattle.cross_matrix.proofs.Runs.{run_same, more_taken, all_taken, piece_within}
 use Rattle.cross_matrix.proofs.receiver.read_bytes.Goals as goal
 

@@ -1,6 +1,6 @@
 use Rattle.std.proofs.Common.{◌≤◌, ◌++◌, ◌-◌, ℕ, List, length, take}
-use Rattle.otn_ports.specs.OutPlace.{out_view}
-use Rattle.otn_ports.specs.Views.{OutView}
+use Rattle.port_base.specs.OutPlace.{out_view}
+use Rattle.port_base.specs.Views.{OutView}
 use Rattle.cross_matrix.specs.Steps.Receiving.{RunRead}
 use Rattle.cross_matrix.proofs.receiver.read_bytes.Given as goal
 

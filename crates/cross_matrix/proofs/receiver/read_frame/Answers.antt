@@ -1,5 +1,5 @@
 use Rattle.std.proofs.Common.{◌++◌}
-use Rattle.otn_ports.specs.OutPlace.{out_view}
+use Rattle.port_base.specs.OutPlace.{out_view}
 use Rattle.cross_matrix.proofs.Runs.{frame_read}
 use Rattle.cross_matrix.proofs.receiver.read_frame.Goals as goal
 

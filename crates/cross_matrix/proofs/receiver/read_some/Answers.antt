@@ -1,6 +1,6 @@
 use Rattle.std.proofs.Common.{◌++◌, take}
 use Rattle.std.specs.Prelude.{option_to_list, option_copied}
-use Rattle.otn_ports.specs.OutPlace.{out_view}
+use Rattle.port_base.specs.OutPlace.{out_view}
 use Rattle.gfp_frames.specs.Delivered.{delivered}
 use Rattle.cross_matrix.proofs.Runs.{none_more, run_more}
 use Rattle.cross_matrix.proofs.receiver.read_some.Goals as goal

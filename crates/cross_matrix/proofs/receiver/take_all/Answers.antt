@@ -1,6 +1,6 @@
 use Rattle.std.proofs.Common.{rules, ◌+◌, ◌-◌, ◌++◌, length, take, drop}
 use Rattle.odu_client.specs.View.{aligner_state}
-use Rattle.otn_ports.specs.OutPlace.{out_view}
+use Rattle.port_base.specs.OutPlace.{out_view}
 use Rattle.cross_matrix.proofs.Runs.{holds_same, more_taken, all_taken, piece_within}
 use Rattle.cross_matrix.proofs.receiver.take_all.Goals as goal
 

@@ -1,7 +1,7 @@
 use Rattle.std.proofs.Common.{◌≤◌, ◌++◌, ◌-◌, ℕ, List, length, take}
 use Rattle.odu_client.specs.View.{aligner_state}
-use Rattle.otn_ports.specs.OutPlace.{out_view}
-use Rattle.otn_ports.specs.Views.{OutView}
+use Rattle.port_base.specs.OutPlace.{out_view}
+use Rattle.port_base.specs.Views.{OutView}
 use Rattle.cross_matrix.specs.Steps.Receiving.{HoldsAfter}
 use Rattle.cross_matrix.proofs.receiver.take_all.Given as goal
 

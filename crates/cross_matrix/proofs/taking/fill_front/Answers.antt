@@ -1,5 +1,5 @@
 use Rattle.std.proofs.Common.{drop, ◌∙◌}
-use Rattle.otn_ports.proofs.Lists.{take_all}
+use Rattle.port_base.proofs.Lists.{take_all}
 use Rattle.std.proofs.lemmas.List.{length-take-le}
 use Rattle.cross_matrix.proofs.taking.fill_front.Goals as goal
 

@@ -1,7 +1,7 @@
 use Rattle.std.proofs.Common.{[], subst}
 use Rattle.otn_base.specs.LineSlots.{slots_of}
-use Rattle.otn_ports.specs.InPlace.{in_view}
-use Rattle.otn_ports.specs.Views.{InView}
+use Rattle.port_base.specs.InPlace.{in_view}
+use Rattle.port_base.specs.Views.{InView}
 use Rattle.tributary_line.specs.TapTurn.{TapStands}
 use Rattle.line_commands.specs.PullReport.{tributary}
 use Rattle.line_commands.proofs.PullLoop.{pull_has_memory}

@@ -1,10 +1,10 @@
 use Rattle.std.proofs.Common.{◌≡◌, ◌+◌, ◌∙◌, refl, subst, inl, inr, Some, None, arith, true, false}
-use Rattle.otn_ports.specs.InPlace.{in_view}
+use Rattle.port_base.specs.InPlace.{in_view}
 use Rattle.line_side.specs.LineStands.{LineView}
-use Rattle.otn_ports.specs.PortViews.{sink_view}
+use Rattle.port_base.specs.PortViews.{sink_view}
 use Rattle.line_commands.specs.Steps.PullRuns.{AnswerRun}
 use Rattle.line_commands.specs.declared.pull.After.TheVariants as next
-use Rattle.otn_ports.specs.declared.ended.Ended.TheVariants.{ReportFault}
+use Rattle.port_base.specs.declared.ended.Ended.TheVariants.{ReportFault}
 use Rattle.line_commands.proofs.PullLoop.{turns_none, turns_more, turns_lost, turns_end, never_written}
 use Rattle.command_base.proofs.Reports.{report_same, report_more}
 use Rattle.line_commands.proofs.pull.write_turns.Goals as goal

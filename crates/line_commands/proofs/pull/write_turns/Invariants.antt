@@ -1,9 +1,9 @@
 use Rattle.std.proofs.Common.{◌≡◌, [], None, false, vec_len}
-use Rattle.otn_ports.specs.InPlace.{in_view}
-use Rattle.otn_ports.specs.Views.{InView}
+use Rattle.port_base.specs.InPlace.{in_view}
+use Rattle.port_base.specs.Views.{InView}
 use Rattle.tributary_model.specs.Places.{Tributary}
 use Rattle.tributary_line.specs.TapTurn.{TapStands, IsBetweenTurns}
-use Rattle.otn_ports.specs.PortViews.{sink_view}
+use Rattle.port_base.specs.PortViews.{sink_view}
 use Rattle.command_base.specs.Ends.{ReportAfter}
 use Rattle.line_commands.proofs.PullLoop.{TurnsSoFar, HasLast}
 use Rattle.line_commands.proofs.pull.write_turns.Given as goal

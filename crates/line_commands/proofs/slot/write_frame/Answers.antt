@@ -1,13 +1,13 @@
 use Rattle.std.proofs.Common.{◌≡◌, ◌∙◌, suc, length, sym, ap, subst}
-use Rattle.otn_ports.proofs.GivenLaws.{read_gave}
-use Rattle.otn_ports.specs.Given.{Gave}
-use Rattle.otn_ports.specs.InPlace.{in_view}
-use Rattle.otn_ports.specs.Reads.{state_after, idle_reading}
-use Rattle.otn_ports.specs.Views.{Live}
-use Rattle.otn_ports.specs.declared.in_place.Reading.TheVariants.{Full}
+use Rattle.port_base.proofs.GivenLaws.{read_gave}
+use Rattle.port_base.specs.Given.{Gave}
+use Rattle.port_base.specs.InPlace.{in_view}
+use Rattle.port_base.specs.Reads.{state_after, idle_reading}
+use Rattle.port_base.specs.Views.{Live}
+use Rattle.port_base.specs.declared.in_place.Reading.TheVariants.{Full}
 use Rattle.frame_geometry.specs.Loans.{after_loan-whole}
 use Rattle.line_commands.proofs.SlotSteps.{live_of, step_written}
-use Rattle.otn_ports.specs.PortViews.{sink_view}
+use Rattle.port_base.specs.PortViews.{sink_view}
 use Rattle.command_base.specs.Ends.{ReportAfter}
 use Rattle.line_commands.specs.Steps.SlotRuns.{SlotStep}
 use Rattle.line_commands.proofs.slot.write_frame.Goals as goal

@@ -1,6 +1,6 @@
 use Rattle.std.proofs.Common.{◌≡◌, ◌<◌, ◌+◌, ◌-◌, ◌≤◌, Some, None, subst, arith, lit≤}
-use Rattle.otn_ports.specs.InPlace.{in_view}
-use Rattle.otn_ports.specs.PortViews.{sink_view}
+use Rattle.port_base.specs.InPlace.{in_view}
+use Rattle.port_base.specs.PortViews.{sink_view}
 use Rattle.command_base.proofs.Reports.{report_same, report_more}
 use Rattle.line_commands.proofs.SlotLoop.{SoFar, so_far_none, ends_after, never_fault}
 use Rattle.line_commands.proofs.SlotFrames.{so_far_frames, ends_with_step}

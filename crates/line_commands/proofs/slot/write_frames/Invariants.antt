@@ -1,6 +1,6 @@
 use Rattle.std.proofs.Common.{◌≤◌, ◌-◌, None}
-use Rattle.otn_ports.specs.InPlace.{in_view}
-use Rattle.otn_ports.specs.PortViews.{sink_view}
+use Rattle.port_base.specs.InPlace.{in_view}
+use Rattle.port_base.specs.PortViews.{sink_view}
 use Rattle.command_base.specs.Ends.{ReportAfter}
 use Rattle.line_commands.proofs.SlotLoop.{SoFar}
 use Rattle.line_commands.proofs.slot.write_frames.Given as goal

@@ -1,9 +1,9 @@
 use Rattle.std.proofs.Common.{◌≡◌, ◌<◌, ◌*◌, ◌+◌, ◌/◌, ◌∙◌, length, take, ap, arith}
 use Rattle.std.proofs.Math.Seq.{take-length}
-use Rattle.otn_ports.specs.Bytes.{after}
-use Rattle.otn_ports.specs.InPlace.{in_view}
-use Rattle.otn_ports.specs.Views.{Live}
-use Rattle.otn_ports.specs.AtHand.{place_at_hand}
+use Rattle.port_base.specs.Bytes.{after}
+use Rattle.port_base.specs.InPlace.{in_view}
+use Rattle.port_base.specs.Views.{Live}
+use Rattle.port_base.specs.AtHand.{place_at_hand}
 use Rattle.line_commands.proofs.SlotFrames.{gave_hand, all_written, part_written}
 use Rattle.line_commands.proofs.Hands.{live_hand, all_went, fewer_went}
 use Rattle.line_commands.proofs.slot.write_gathered.Goals as goal

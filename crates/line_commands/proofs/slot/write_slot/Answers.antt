@@ -1,6 +1,6 @@
 use Rattle.std.proofs.Common.{◌≡◌, ap}
-use Rattle.otn_ports.specs.InPlace.{in_view}
-use Rattle.otn_ports.specs.Views.{Dead}
+use Rattle.port_base.specs.InPlace.{in_view}
+use Rattle.port_base.specs.Views.{Dead}
 use Rattle.line_commands.proofs.SlotLoop.{dead_run, slot_has_memory}
 use Rattle.line_commands.proofs.slot.write_slot.Goals as goal
 

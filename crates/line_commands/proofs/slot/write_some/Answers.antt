@@ -1,6 +1,6 @@
 use Rattle.std.proofs.Common.{◌∙◌, sym, subst}
-use Rattle.otn_ports.specs.InPlace.{in_view}
-use Rattle.otn_ports.specs.AtHand.{place_at_hand}
+use Rattle.port_base.specs.InPlace.{in_view}
+use Rattle.port_base.specs.AtHand.{place_at_hand}
 use Rattle.line_commands.specs.Steps.SlotRuns.{FramesStep, SlotStep}
 use Rattle.line_commands.proofs.SlotBatches.{until-of_front}
 use Rattle.line_commands.proofs.SlotFrames.{step_of_one}

@@ -1,8 +1,8 @@
 use Rattle.std.proofs.Common.{false, ap, length, arith, ◌∙◌, subst}
 use Rattle.std.proofs.lemmas.List.{length-take-le}
-use Rattle.otn_ports.specs.AtHand.{place_at_hand}
-use Rattle.otn_ports.specs.InPlace.{in_view}
-use Rattle.otn_ports.specs.declared.in_place.Reading.TheVariants.{Full}
+use Rattle.port_base.specs.AtHand.{place_at_hand}
+use Rattle.port_base.specs.InPlace.{in_view}
+use Rattle.port_base.specs.declared.in_place.Reading.TheVariants.{Full}
 use Rattle.line_side.specs.Steps.Reader.{FrameRead}
 use Rattle.line_side.proofs.Reading.{hand_live, frame_at_hand}
 use Rattle.line_side.proofs.reader.read_bytes.Goals as goal

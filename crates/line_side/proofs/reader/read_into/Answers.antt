@@ -1,8 +1,8 @@
 use Rattle.std.proofs.Common.{◌≡◌, ◌≢◌, ap, length, ◌∙◌, refl}
-use Rattle.otn_ports.specs.Views.{Live}
-use Rattle.otn_ports.specs.InPlace.{in_view}
-use Rattle.otn_ports.specs.declared.in_place.Reading.TheVariants.{End}
-use Rattle.otn_ports.specs.Reads.{idle_reading}
+use Rattle.port_base.specs.Views.{Live}
+use Rattle.port_base.specs.InPlace.{in_view}
+use Rattle.port_base.specs.declared.in_place.Reading.TheVariants.{End}
+use Rattle.port_base.specs.Reads.{idle_reading}
 use Rattle.frame_geometry.specs.Loans.{after_loan-whole}
 use Rattle.line_side.proofs.Reading.{frame_came, frame_alive, frame_dead, lost_dead, not_dead}
 use Rattle.line_side.proofs.reader.read_into.Goals as goal

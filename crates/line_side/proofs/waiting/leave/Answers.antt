@@ -1,6 +1,6 @@
 use Rattle.std.proofs.Common.{◌≢◌, ap}
-use Rattle.otn_ports.specs.OutPlace.{out_view}
-use Rattle.otn_ports.specs.Views.{Empty}
+use Rattle.port_base.specs.OutPlace.{out_view}
+use Rattle.port_base.specs.Views.{Empty}
 use Rattle.line_side.proofs.Waits.{leaves_by}
 use Rattle.line_side.proofs.waiting.leave.Goals as goal
 

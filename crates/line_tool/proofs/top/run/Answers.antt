@@ -1,7 +1,7 @@
 use Rattle.std.proofs.Common.{refl, sym, subst, ◌∙◌}
-use Rattle.otn_ports.proofs.PortLaws.{source_later_none}
-use Rattle.otn_ports.specs.PortViews.{SinkLater, sink_view, source_view}
-use Rattle.otn_ports.specs.Racks.{bays_view, with_line_in}
+use Rattle.port_base.proofs.PortLaws.{source_later_none}
+use Rattle.port_base.specs.PortViews.{SinkLater, sink_view, source_view}
+use Rattle.port_base.specs.Racks.{bays_view, with_line_in}
 use Rattle.tributary_model.specs.Places.{tributary_of}
 use Rattle.protect_selector.specs.Protecting.{ends_of, OnlyProtected}
 use Rattle.protect_selector.specs.ProtectLeft.{ProtectRan}

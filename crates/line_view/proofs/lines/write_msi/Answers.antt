@@ -1,7 +1,7 @@
 use Rattle.std.proofs.Common.{◌≡◌, ◌++◌, ◌+◌, get_or, flat_map, take, drop, arith, rules, subst, sym}
 use Rattle.std.proofs.lemmas.Option.{slice_get-get_or}
-use Rattle.otn_ports.specs.PortViews.{SinkWrites, sink_view}
-use Rattle.otn_ports.specs.declared.drain.Written.TheVariants as written
+use Rattle.port_base.specs.PortViews.{SinkWrites, sink_view}
+use Rattle.port_base.specs.declared.drain.Written.TheVariants as written
 use Rattle.line_view.specs.ViewText.{msi_line}
 use Rattle.line_view.proofs.Texts.{writes_none, writes_twice, part_of_more, flat_on, flat_all, flat_parts}
 use Rattle.line_view.proofs.lines.write_msi.Goals as goal

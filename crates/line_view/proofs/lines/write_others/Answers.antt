@@ -1,6 +1,6 @@
 use Rattle.std.proofs.Common.{◌≡◌, rules, subst, flat_map}
-use Rattle.otn_ports.specs.PortViews.{SinkWrites, sink_view}
-use Rattle.otn_ports.specs.declared.drain.Written.TheVariants as written
+use Rattle.port_base.specs.PortViews.{SinkWrites, sink_view}
+use Rattle.port_base.specs.declared.drain.Written.TheVariants as written
 use Rattle.line_view.specs.Steps.ViewRuns.{watched_line}
 use Rattle.line_view.specs.ViewText.{msi_line}
 use Rattle.line_view.proofs.Texts.{writes_twice, part_of_more}

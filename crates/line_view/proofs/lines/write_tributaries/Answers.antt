@@ -1,6 +1,6 @@
 use Rattle.std.proofs.Common.{◌≡◌, ◌++◌, ◌+◌, flat_map, take, drop, arith, rules, subst, sym}
-use Rattle.otn_ports.specs.PortViews.{SinkWrites, sink_view}
-use Rattle.otn_ports.specs.declared.drain.Written.TheVariants as written
+use Rattle.port_base.specs.PortViews.{SinkWrites, sink_view}
+use Rattle.port_base.specs.declared.drain.Written.TheVariants as written
 use Rattle.line_view.specs.Steps.ViewRuns.{watched_line}
 use Rattle.line_view.proofs.Texts.{writes_none, writes_twice, part_of_more, flat_on, flat_all, flat_parts, known_item}
 use Rattle.line_view.proofs.lines.write_tributaries.Goals as goal

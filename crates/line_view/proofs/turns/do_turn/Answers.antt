@@ -1,6 +1,6 @@
 use Rattle.std.proofs.Common.{◌≡◌, Bool, ◌∙◌, ◌+◌, ◌++◌, sym, ap, subst}
 use Rattle.otn_base.specs.LineSlots.{slots_of}
-use Rattle.otn_ports.specs.InPlace.{in_view}
+use Rattle.port_base.specs.InPlace.{in_view}
 use Rattle.line_side.specs.LineNumbers.{numbers_of}
 use Rattle.line_side.specs.MayBe.{MayBe}
 use Rattle.line_view.specs.Steps.Viewing.{ViewStands}

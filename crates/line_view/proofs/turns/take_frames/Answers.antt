@@ -1,5 +1,5 @@
 use Rattle.std.proofs.Common.{◌≤◌, ◌∙◌, ◌+◌, ◌++◌, ap, length, arith}
-use Rattle.otn_ports.specs.InPlace.{in_view}
+use Rattle.port_base.specs.InPlace.{in_view}
 use Rattle.line_view.proofs.Pieces.{moves_none, moves_twice}
 use Rattle.line_view.proofs.turns.take_frames.Goals as goal
 

@@ -1,6 +1,6 @@
 use Rattle.std.proofs.Common.{◌≡◌, ◌≤◌, ℕ, List, length}
-use Rattle.otn_ports.specs.InPlace.{in_view}
-use Rattle.otn_ports.specs.Views.{InView}
+use Rattle.port_base.specs.InPlace.{in_view}
+use Rattle.port_base.specs.Views.{InView}
 use Rattle.line_side.specs.LineForm.{LineForm}
 use Rattle.line_view.specs.Steps.Viewing.{ViewStands, ViewMoves}
 use Rattle.line_view.proofs.turns.take_frames.Given as goal

@@ -1,6 +1,6 @@
 use Rattle.std.proofs.Common.{◌≡◌, ◌+◌, rules, subst}
-use Rattle.otn_ports.specs.PortViews.{SinkWrites, sink_view}
-use Rattle.otn_ports.specs.declared.drain.Written.TheVariants as written
+use Rattle.port_base.specs.PortViews.{SinkWrites, sink_view}
+use Rattle.port_base.specs.declared.drain.Written.TheVariants as written
 use Rattle.line_view.specs.Steps.ViewRuns.{lines_of}
 use Rattle.line_view.proofs.viewing.write_turn.Goals as goal
 

@@ -1,8 +1,8 @@
 use Rattle.std.proofs.Common.{◌≡◌, ◌+◌, ◌∙◌, refl, subst, inl, inr, arith, rules, true, false}
 use Rattle.std.specs.Prelude.{map}
-use Rattle.otn_ports.specs.InPlace.{in_view}
-use Rattle.otn_ports.specs.PortViews.{SinkWrites, sink_view}
-use Rattle.otn_ports.specs.declared.drain.Written.TheVariants as written
+use Rattle.port_base.specs.InPlace.{in_view}
+use Rattle.port_base.specs.PortViews.{SinkWrites, sink_view}
+use Rattle.port_base.specs.declared.drain.Written.TheVariants as written
 use Rattle.line_side.specs.LineForm.{LineForm}
 use Rattle.line_view.specs.ViewText.{head_line}
 use Rattle.line_view.specs.Steps.Watching.{showing_of}

@@ -1,8 +1,8 @@
 use Rattle.std.proofs.Common.{◌≡◌, false, [], length}
 use Rattle.std.specs.Prelude.{map}
-use Rattle.otn_ports.specs.InPlace.{in_view}
-use Rattle.otn_ports.specs.PortViews.{sink_view}
-use Rattle.otn_ports.specs.Views.{InView}
+use Rattle.port_base.specs.InPlace.{in_view}
+use Rattle.port_base.specs.PortViews.{sink_view}
+use Rattle.port_base.specs.Views.{InView}
 use Rattle.line_view.specs.Steps.Viewing.{ViewStands}
 use Rattle.line_view.specs.Steps.Watching.{showing_of}
 use Rattle.line_view.proofs.Runs.{TurnsSoFar, HasLast}

@@ -1,7 +1,7 @@
 use Rattle.std.proofs.Common.{subst}
 use Rattle.std.specs.Prelude.{map}
-use Rattle.otn_ports.specs.InPlace.{in_view}
-use Rattle.otn_ports.specs.PortViews.{sink_view}
+use Rattle.port_base.specs.InPlace.{in_view}
+use Rattle.port_base.specs.PortViews.{sink_view}
 use Rattle.line_side.specs.LineForm.{LineForm}
 use Rattle.line_view.specs.ViewRuns.{ViewEnded}
 use Rattle.line_view.specs.Steps.Watching.{showing_of}

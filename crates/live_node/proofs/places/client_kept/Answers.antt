@@ -1,5 +1,5 @@
 use Rattle.std.proofs.Common.{◌∙◌}
-use Rattle.otn_ports.specs.Racks.{client_outs}
+use Rattle.port_base.specs.Racks.{client_outs}
 use Rattle.live_node.proofs.Handing.{kept_of}
 use Rattle.live_node.proofs.places.client_kept.Goals as goal
 

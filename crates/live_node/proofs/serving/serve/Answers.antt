@@ -1,5 +1,5 @@
 use Rattle.std.proofs.Common.{rules, ◌≡◌, true, ◌∙◌}
-use Rattle.otn_ports.specs.Racks.{bays_view}
+use Rattle.port_base.specs.Racks.{bays_view}
 use Rattle.node_moments.specs.NodeView.{is_ready, left_of}
 use Rattle.node_moments.proofs.Later.{left_step}
 use Rattle.network_core.proofs.Growth.{leads_twice, smaller}

@@ -1,5 +1,5 @@
 use Rattle.std.proofs.Common.{◌≡◌, ◌∙◌, arith}
-use Rattle.otn_ports.specs.Racks.{bays_view}
+use Rattle.port_base.specs.Racks.{bays_view}
 use Rattle.node_moments.specs.NodeView.{left_of, ready_number}
 use Rattle.node_moments.proofs.Later.{left_step, none_ready}
 use Rattle.network_core.proofs.Growth.{grows_twice, grows_same, leads_twice, smaller}

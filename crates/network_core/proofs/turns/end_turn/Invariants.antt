@@ -1,5 +1,5 @@
 use Rattle.std.proofs.Common.{◌≡◌}
-use Rattle.otn_ports.specs.Racks.{bays_view}
+use Rattle.port_base.specs.Racks.{bays_view}
 use Rattle.node_moments.specs.NodeView.{left_of}
 use Rattle.node_core.specs.Growing.{OutputsGrow}
 use Rattle.network_core.specs.Turns.{LeadsLater}

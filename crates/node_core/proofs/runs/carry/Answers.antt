@@ -1,5 +1,5 @@
 use Rattle.std.proofs.Common.{◌≡◌, ◌<◌, ◌-◌, arith, sym, refl, ◌∙◌}
-use Rattle.otn_ports.specs.Racks.{bays_view}
+use Rattle.port_base.specs.Racks.{bays_view}
 use Rattle.node_moments.specs.NodeView.{left_of, ready_number}
 use Rattle.node_moments.proofs.Later.{later_twice, none_ready, left_step, left_fence, asked_more, asked_same, step_smaller, fence_smaller}
 use Rattle.node_core.proofs.runs.carry.Goals as goal

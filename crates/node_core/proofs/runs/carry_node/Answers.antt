@@ -1,4 +1,4 @@
-use Rattle.otn_ports.specs.Racks.{bays_view}
+use Rattle.port_base.specs.Racks.{bays_view}
 use Rattle.node_core.proofs.runs.carry_node.Goals as goal
 
 pub returns-clause-left : goal.returns-clause-left

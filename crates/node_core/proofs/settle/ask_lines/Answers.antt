@@ -1,6 +1,6 @@
 use Rattle.std.proofs.Common.{◌<◌, ◌+◌, length, refl, sym, subst, arith}
 use Rattle.std.proofs.lemmas.Option.{slice_get_read}
-use Rattle.otn_ports.specs.Racks.{bays_view, with_line_in}
+use Rattle.port_base.specs.Racks.{bays_view, with_line_in}
 use Rattle.node_core.specs.Steps.Asking.{LinesAnswer}
 use Rattle.node_core.proofs.Asked.{none_asked, asked_next}
 use Rattle.node_core.proofs.settle.ask_lines.Goals as goal

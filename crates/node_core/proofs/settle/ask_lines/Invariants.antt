@@ -1,4 +1,4 @@
-use Rattle.otn_ports.specs.Racks.{bays_view}
+use Rattle.port_base.specs.Racks.{bays_view}
 use Rattle.node_core.specs.Steps.Asking.{LinesAnswer}
 use Rattle.node_core.proofs.settle.ask_lines.Given as goal
 

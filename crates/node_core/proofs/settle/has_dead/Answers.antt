@@ -1,5 +1,5 @@
 use Rattle.std.proofs.Common.{◌≡◌, true, false, sym, ◌∙◌, subst}
-use Rattle.otn_ports.specs.Racks.{bays_view}
+use Rattle.port_base.specs.Racks.{bays_view}
 use Rattle.node_core.specs.Steps.Asking.{is_cut}
 use Rattle.node_core.proofs.Asked.{none_cut, some_cut, cut_next}
 use Rattle.turn_pieces.specs.Ports.{port_at}

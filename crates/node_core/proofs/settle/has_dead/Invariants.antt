@@ -1,5 +1,5 @@
 use Rattle.std.proofs.Common.{◌≡◌, ◌<◌, ℕ, false}
-use Rattle.otn_ports.specs.Racks.{bays_view}
+use Rattle.port_base.specs.Racks.{bays_view}
 use Rattle.node_core.specs.Steps.Asking.{is_cut}
 use Rattle.turn_pieces.specs.Ports.{port_at}
 use Rattle.node_core.proofs.settle.has_dead.Given as goal

@@ -1,5 +1,5 @@
 use Rattle.otn_base.specs.declared.kind.PortName.TheVariants as port
-use Rattle.otn_ports.specs.OutPlace.{out_view}
+use Rattle.port_base.specs.OutPlace.{out_view}
 use Rattle.node_links.specs.Links.{is_on, joins, takes_part}
 use Rattle.node_links.proofs.ClientPieces.{found_at, one_gives}
 use Rattle.node_links.proofs.LinkLaws.{both_right}

@@ -1,5 +1,5 @@
 use Rattle.otn_base.specs.declared.kind.PortName.TheVariants as port
-use Rattle.otn_ports.specs.InPlace.{in_view}
+use Rattle.port_base.specs.InPlace.{in_view}
 use Rattle.node_links.specs.Links.{is_on, joins, takes_part}
 use Rattle.node_links.proofs.ClientPieces.{found_at, one_takes}
 use Rattle.node_links.proofs.LinkLaws.{both_left, both_right}

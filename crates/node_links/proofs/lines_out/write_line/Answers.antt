@@ -2,7 +2,7 @@ use Rattle.std.proofs.Common.{◌≡◌, ◌<◌, ◌+◌, ◌*◌, ◌%◌, ap,
 use Rattle.otn_base.specs.declared.kind.PortName.TheVariants as port
 use Rattle.otn_base.specs.LineSlots.{slots_of}
 use Rattle.line_side.specs.LineForm.{LineForm}
-use Rattle.otn_ports.specs.OutPlace.{out_view}
+use Rattle.port_base.specs.OutPlace.{out_view}
 use Rattle.line_side.specs.LineOutput.{FramePut, LineMade, LineOutView}
 use Rattle.node_links.specs.Links.{takes_part}
 use Rattle.node_links.specs.Steps.LineFrames.{AllotsOwn, FromBlank}

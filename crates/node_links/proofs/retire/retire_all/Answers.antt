@@ -1,5 +1,5 @@
 use Rattle.std.proofs.Common.{◌<◌, ◌≤◌, length, arith}
-use Rattle.otn_ports.specs.Racks.{bays_view}
+use Rattle.port_base.specs.Racks.{bays_view}
 use Rattle.node_links.proofs.Emptied.{rest_next, rest_none}
 use Rattle.node_links.proofs.retire.retire_all.Goals as goal
 

@@ -1,4 +1,4 @@
-use Rattle.otn_ports.specs.Racks.{bays_view}
+use Rattle.port_base.specs.Racks.{bays_view}
 use Rattle.node_links.proofs.Emptied.{RestRetires}
 use Rattle.node_links.proofs.retire.retire_all.Given as goal
 

@@ -1,6 +1,6 @@
 use Rattle.std.proofs.Common.{◌≡◌, [], length, arith, rules}
 use Rattle.std.proofs.lemmas.Grind.{common_steps}
-use Rattle.otn_ports.specs.Views.{InView}
+use Rattle.port_base.specs.Views.{InView}
 use Rattle.line_side.specs.LineStands.{LineView, LineStands}
 use Rattle.device_model.specs.Entries.{form_in}
 use Rattle.node_moments.proofs.NewParts.{each_more, each_none}

@@ -1,5 +1,5 @@
 use Rattle.std.proofs.Common.{◌≡◌, ℕ, [], Some, slice_get, vec_len}
-use Rattle.otn_ports.specs.Views.{InView}
+use Rattle.port_base.specs.Views.{InView}
 use Rattle.line_side.specs.LineStands.{LineView, LineStands}
 use Rattle.device_model.specs.Entries.{form_in}
 use Rattle.node_moments.proofs.build.new_lines_in.Given as goal

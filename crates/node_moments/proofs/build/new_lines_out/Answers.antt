@@ -1,6 +1,6 @@
 use Rattle.std.proofs.Common.{◌≡◌, [], length, arith, rules}
 use Rattle.std.proofs.lemmas.Grind.{common_steps}
-use Rattle.otn_ports.specs.Views.{OutView}
+use Rattle.port_base.specs.Views.{OutView}
 use Rattle.line_side.specs.LineOutput.{LineMade}
 use Rattle.device_model.specs.Entries.{form_out}
 use Rattle.node_moments.proofs.NewParts.{each_more, each_none}

@@ -1,5 +1,5 @@
 use Rattle.std.proofs.Common.{◌≡◌, ℕ, [], Some, slice_get, vec_len}
-use Rattle.otn_ports.specs.Views.{OutView}
+use Rattle.port_base.specs.Views.{OutView}
 use Rattle.line_side.specs.LineOutput.{LineOutView, LineMade}
 use Rattle.device_model.specs.Entries.{form_out}
 use Rattle.node_moments.proofs.build.new_lines_out.Given as goal

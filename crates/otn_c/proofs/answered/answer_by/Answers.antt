@@ -1,6 +1,6 @@
 use Rattle.std.proofs.Common.{ap}
 use Rattle.otn_c.specs.Lent.{lent_left, lent_ended}
-use Rattle.otn_ports.specs.PortViews.{source_view, sink_view}
+use Rattle.port_base.specs.PortViews.{source_view, sink_view}
 use Rattle.otn_c.specs.contracts.slice_source.SliceSourceSource.TheImpl as source
 use Rattle.line_tool.specs.Words.{texts}
 use Rattle.otn_c.proofs.Answering.{is_answered, source_is}

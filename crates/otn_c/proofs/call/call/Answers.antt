@@ -1,5 +1,5 @@
 use Rattle.std.proofs.Common.{rules}
-use Rattle.otn_ports.specs.PortViews.{sink_view}
+use Rattle.port_base.specs.PortViews.{sink_view}
 use Rattle.line_tool.specs.Words.{texts}
 use Rattle.otn_c.proofs.Answering.{sink_is}
 use Rattle.otn_c.proofs.Calm.{calm_inputs}

@@ -1,5 +1,5 @@
 use Rattle.std.proofs.Common.{rules, Some, ap, sym}
-use Rattle.otn_ports.specs.PortViews.{sink_view}
+use Rattle.port_base.specs.PortViews.{sink_view}
 use Rattle.otn_c.proofs.Filling.{view}
 use Rattle.otn_c.proofs.Handing.{handed_whole}
 use Rattle.otn_c.specs.contracts.growing_sink.GrowingSinkSink.TheImpl as sink

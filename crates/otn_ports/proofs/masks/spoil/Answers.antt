@@ -1,5 +1,5 @@
 use Rattle.std.proofs.Common.{◌≡◌, ◌<◌, ◌≤◌, ◌+◌, ℕ, true, drop, length, get_or, bit_xor, arith, refl, ap, ◌∙◌}
-use Rattle.otn_ports.specs.Bytes.{raised}
+use Rattle.port_base.specs.Bytes.{raised}
 use Rattle.otn_ports.specs.Spoiling.{mask_at, rises_from}
 use Rattle.otn_ports.proofs.SpoilLaws.{done_more, left_more, rest_more, raised-more, spoiled_each, stopped, due_mask}
 use Rattle.otn_ports.proofs.masks.spoil.Goals as goal

@@ -1,5 +1,5 @@
 use Rattle.std.proofs.Common.{◌≡◌, ◌≤◌, ◌<◌, ◌+◌, ℕ, true, length, drop, get_or, bit_xor}
-use Rattle.otn_ports.specs.Bytes.{raised}
+use Rattle.port_base.specs.Bytes.{raised}
 use Rattle.otn_ports.specs.Spoiling.{mask_at, rises_from}
 use Rattle.otn_ports.proofs.masks.spoil.Given as goal
 

@@ -1,6 +1,6 @@
 use Rattle.std.proofs.Common.{◌≡◌, ◌≤◌, ◌/◌, ◌++◌, ◌∙◌, length, take, arith, ap}
 use Rattle.std.proofs.lemmas.List.{take_all}
-use Rattle.otn_ports.proofs.TakenTwice.{front}
+use Rattle.port_base.proofs.TakenTwice.{front}
 use Rattle.pcap_packets.specs.Written.{packet_of}
 use Rattle.pcap_packets.proofs.Digits.{packet_decoded, decoded_is}
 use Rattle.pcap_packets.proofs.held.decode_at.Goals as goal

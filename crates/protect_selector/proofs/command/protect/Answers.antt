@@ -1,5 +1,5 @@
-use Rattle.otn_ports.specs.PortViews.{sink_view}
-use Rattle.otn_ports.specs.Racks.{bays_view}
+use Rattle.port_base.specs.PortViews.{sink_view}
+use Rattle.port_base.specs.Racks.{bays_view}
 use Rattle.tributary_model.specs.Places.{tributary_of}
 use Rattle.protect_selector.specs.Protecting.{ends_of}
 use Rattle.protect_selector.proofs.command.protect.Goals as goal

@@ -1,7 +1,7 @@
 use Rattle.std.proofs.Common.{◌≡◌, ◌∙◌, subst, arith, rules}
-use Rattle.otn_ports.specs.PortViews.{sink_view}
-use Rattle.otn_ports.specs.Racks.{bays_view}
-use Rattle.otn_ports.specs.declared.drain.Written.TheVariants as written
+use Rattle.port_base.specs.PortViews.{sink_view}
+use Rattle.port_base.specs.Racks.{bays_view}
+use Rattle.port_base.specs.declared.drain.Written.TheVariants as written
 use Rattle.protect_selector.specs.Protecting.{ends_of}
 use Rattle.protect_selector.specs.Steps.Protecting.{TurnGone, TurnsGone}
 use Rattle.protect_selector.proofs.ProtectEnds.{all_done, one_more, one_lost, only_twice}

@@ -1,6 +1,6 @@
 use Rattle.std.proofs.Common.{◌≡◌, ℕ, vec_len}
-use Rattle.otn_ports.specs.PortViews.{sink_view}
-use Rattle.otn_ports.specs.Racks.{bays_view}
+use Rattle.port_base.specs.PortViews.{sink_view}
+use Rattle.port_base.specs.Racks.{bays_view}
 use Rattle.tributary_model.specs.Laws.{IsTributary}
 use Rattle.tributary_model.specs.Places.{Tributary}
 use Rattle.protect_selector.specs.Protecting.{OnlyProtected, ends_of}

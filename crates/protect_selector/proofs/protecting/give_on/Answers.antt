@@ -1,5 +1,5 @@
 use Rattle.std.proofs.Common.{◌≡◌, ◌≤◌, ◌+◌, ◌-◌, ℕ, List, [], ◌∷◌, ◌++◌, drop, length, slice_range, length-take, length-drop, sym, subst, rules, arith}
-use Rattle.otn_ports.specs.OutPlace.{out_view}
+use Rattle.port_base.specs.OutPlace.{out_view}
 use Rattle.tributary_model.proofs.Ranges.{back_of}
 use Rattle.tributary_line.specs.FeedTurn.{FeedStands, Completes}
 use Rattle.protect_selector.specs.OfLines.{bytes_of}

@@ -1,7 +1,7 @@
 use Rattle.std.proofs.Common.{refl}
-use Rattle.otn_ports.proofs.BaysLaws.{line_in_seen, line_in_set, only_line_in}
-use Rattle.otn_ports.specs.InPlace.{in_view}
-use Rattle.otn_ports.specs.Racks.{bays_view, with_line_in}
+use Rattle.port_base.proofs.BaysLaws.{line_in_seen, line_in_set, only_line_in}
+use Rattle.port_base.specs.InPlace.{in_view}
+use Rattle.port_base.specs.Racks.{bays_view, with_line_in}
 use Rattle.protect_selector.proofs.ProtectTurns.{only_both, seen_of}
 use Rattle.protect_selector.proofs.ProtectEnds.{settled_by}
 use Rattle.protect_selector.proofs.settling.settle.Goals as goal

@@ -1,7 +1,7 @@
 use Rattle.std.proofs.Common.{◌∙◌, ap}
-use Rattle.otn_ports.specs.Bytes.{raised}
-use Rattle.otn_ports.specs.PortViews.{sink_view}
-use Rattle.otn_ports.specs.Racks.{bays_view}
+use Rattle.port_base.specs.Bytes.{raised}
+use Rattle.port_base.specs.PortViews.{sink_view}
+use Rattle.port_base.specs.Racks.{bays_view}
 use Rattle.device_model.specs.RunNumbers.{numbers_of_run}
 use Rattle.run_command.proofs.CarriedPlans.{carried_whole, carried_lost}
 use Rattle.run_command.proofs.plan_run.carry_plan.Goals as goal

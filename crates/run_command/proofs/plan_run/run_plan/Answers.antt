@@ -1,6 +1,6 @@
 use Rattle.std.proofs.Common.{◌∙◌, Result, Ok, Err, IfErr, ap, subst}
 use Rattle.otn_base.specs.declared.memory.Memory.{Memory as NoMemory}
-use Rattle.otn_ports.specs.PortViews.{sink_view, source_view}
+use Rattle.port_base.specs.PortViews.{sink_view, source_view}
 use Rattle.command_base.specs.Device.{device}
 use Rattle.check_command.specs.PlanReading.{PlanReading}
 use Rattle.run_command.specs.declared.plan_run.Ran.{Ran}

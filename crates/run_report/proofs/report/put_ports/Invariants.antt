@@ -1,6 +1,6 @@
 use Rattle.std.proofs.Common.{◌≡◌, ◌≤◌, ◌+◌, ◌*◌, ◌++◌}
 use Rattle.arrayvec.specs.ArrayString.{array_string_len}
-use Rattle.otn_ports.specs.Racks.{bays_view}
+use Rattle.port_base.specs.Racks.{bays_view}
 use Rattle.device_model.specs.Moments.{uses}
 use Rattle.device_model.specs.Report.{used_lines}
 use Rattle.device_model.specs.RunNumbers.{numbers_of_run}

@@ -1,5 +1,5 @@
-use Rattle.otn_ports.specs.Racks.{bays_view}
-use Rattle.otn_ports.specs.contracts.mem_source.MemSourceSource.TheImpl as source
+use Rattle.port_base.specs.Racks.{bays_view}
+use Rattle.port_base.specs.contracts.mem_source.MemSourceSource.TheImpl as source
 use Rattle.node_moments.specs.NodeView.{left_of}
 use Rattle.device_model.specs.RunNumbers.{numbers_of_run}
 use Rattle.trial_command.proofs.TrialPlaces.{run_went}

@@ -1,9 +1,9 @@
 use Rattle.std.proofs.Common.{◌++◌, ap, sym, ◌∙◌, arith}
 use Rattle.std.specs.Prelude.{string_bytes}
-use Rattle.otn_ports.specs.OutPlace.{out_view}
-use Rattle.otn_ports.specs.Views.{OutView}
-use Rattle.otn_ports.specs.contracts.mem_source.MemSourceSource.TheImpl as source
-use Rattle.otn_ports.proofs.BaysLaws.{client_out_seen}
+use Rattle.port_base.specs.OutPlace.{out_view}
+use Rattle.port_base.specs.Views.{OutView}
+use Rattle.port_base.specs.contracts.mem_source.MemSourceSource.TheImpl as source
+use Rattle.port_base.proofs.BaysLaws.{client_out_seen}
 use Rattle.trial_command.proofs.TrialReport.{none_told, next_told}
 use Rattle.trial_command.proofs.TrialPlaces.{text_sink, view}
 use Rattle.trial_command.proofs.trial.lines_of_clients.Goals as goal

@@ -1,6 +1,6 @@
 use Rattle.std.proofs.Common.{◌≡◌, ◌++◌, ap, ◌∙◌}
 use Rattle.std.specs.Prelude.{string_bytes}
-use Rattle.otn_ports.specs.PortViews.{sink_view}
+use Rattle.port_base.specs.PortViews.{sink_view}
 use Rattle.trial_command.specs.TrialReport.{check_line}
 use Rattle.trial_command.specs.declared.places.TheConstants.{TEXT_ROOM}
 use Rattle.trial_command.proofs.TrialAnswers.{all_live, trial_ran}

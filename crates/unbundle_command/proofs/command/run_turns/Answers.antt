@@ -1,5 +1,5 @@
 use Rattle.std.proofs.Common.{◌∙◌, sym, subst, add-one}
-use Rattle.otn_ports.specs.Racks.{bays_view}
+use Rattle.port_base.specs.Racks.{bays_view}
 use Rattle.unbundle_command.specs.Steps.Unbundling.{TurnsGone}
 use Rattle.unbundle_command.proofs.Turns.{one_more, only_twice}
 use Rattle.unbundle_command.proofs.command.run_turns.Goals as goal

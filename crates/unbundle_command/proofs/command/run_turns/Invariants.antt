@@ -1,7 +1,7 @@
 use Rattle.std.proofs.Common.{◌≡◌, ◌+◌, vec_len}
 use Rattle.otn_base.specs.declared.limits.TheConstants.{GROUPS}
-use Rattle.otn_ports.specs.Racks.{bays_view}
-use Rattle.otn_ports.specs.Views.{BaysView}
+use Rattle.port_base.specs.Racks.{bays_view}
+use Rattle.port_base.specs.Views.{BaysView}
 use Rattle.unbundle_command.specs.Unbundling.{OnlyUnbundled}
 use Rattle.unbundle_command.specs.Steps.Unbundling.{IsReady, TurnsGone}
 use Rattle.unbundle_command.proofs.command.run_turns.Given as goal

@@ -1,4 +1,4 @@
-use Rattle.otn_ports.specs.Racks.{bays_view}
+use Rattle.port_base.specs.Racks.{bays_view}
 use Rattle.unbundle_command.proofs.Turns.{only_twice}
 use Rattle.unbundle_command.proofs.command.unbundle.Goals as goal
 

@@ -1,6 +1,6 @@
 use Rattle.std.proofs.Common.{◌≡◌, List, vec_len}
-use Rattle.otn_ports.specs.Racks.{bays_view}
-use Rattle.otn_ports.specs.Views.{BaysView}
+use Rattle.port_base.specs.Racks.{bays_view}
+use Rattle.port_base.specs.Views.{BaysView}
 use Rattle.gfp_linear.specs.ChannelArrivals.{ChannelArrival}
 use Rattle.unbundle_command.specs.Steps.Receiving.{ChannelsStand, NoneHeld, OnlyClientsOut}
 use Rattle.unbundle_command.proofs.outputs.flush_all.Given as goal

@@ -1,8 +1,8 @@
 use Rattle.std.proofs.Common.{arith}
 use Rattle.std.proofs.lemmas.Option.{slice_get_read}
-use Rattle.otn_ports.proofs.BaysLaws.{client_out_seen, client_out_set, only_client_out}
-use Rattle.otn_ports.specs.OutPlace.{out_view}
-use Rattle.otn_ports.specs.Racks.{bays_view, with_client_out}
+use Rattle.port_base.proofs.BaysLaws.{client_out_seen, client_out_set, only_client_out}
+use Rattle.port_base.specs.OutPlace.{out_view}
+use Rattle.port_base.specs.Racks.{bays_view, with_client_out}
 use Rattle.unbundle_command.proofs.Holding.{one_flushed, none_held, clients_one}
 use Rattle.unbundle_command.proofs.outputs.flush_one.Goals as goal
 

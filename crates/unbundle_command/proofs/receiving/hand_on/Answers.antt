@@ -1,6 +1,6 @@
 use Rattle.std.specs.Prelude.{flat_map}
 use Rattle.gfp_linear.specs.ChannelArrivals.{channel_arrivals}
-use Rattle.otn_ports.specs.Racks.{bays_view}
+use Rattle.port_base.specs.Racks.{bays_view}
 use Rattle.unbundle_command.proofs.Holding.{clients_none}
 use Rattle.unbundle_command.proofs.Runs.{before, open_run, goes_on, whole_read, break_read, nothing_read}
 use Rattle.unbundle_command.proofs.receiving.hand_on.Goals as goal

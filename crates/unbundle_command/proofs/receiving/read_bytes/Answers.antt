@@ -1,5 +1,5 @@
 use Rattle.std.proofs.Common.{rules, ◌+◌, ◌-◌, ◌++◌, length, take, drop}
-use Rattle.otn_ports.specs.Racks.{bays_view}
+use Rattle.port_base.specs.Racks.{bays_view}
 use Rattle.unbundle_command.proofs.Holding.{clients_twice}
 use Rattle.unbundle_command.proofs.Runs.{run_same, more_taken, all_taken, piece_within}
 use Rattle.unbundle_command.proofs.receiving.read_bytes.Goals as goal

@@ -1,5 +1,5 @@
 use Rattle.std.proofs.Common.{◌++◌}
-use Rattle.otn_ports.specs.Racks.{bays_view}
+use Rattle.port_base.specs.Racks.{bays_view}
 use Rattle.unbundle_command.proofs.Holding.{clients_twice}
 use Rattle.unbundle_command.proofs.Runs.{frame_read}
 use Rattle.unbundle_command.proofs.receiving.read_frame.Goals as goal

@@ -1,6 +1,6 @@
 use Rattle.std.proofs.Common.{◌++◌, take}
 use Rattle.std.specs.Prelude.{option_to_list, option_map}
-use Rattle.otn_ports.specs.Racks.{bays_view}
+use Rattle.port_base.specs.Racks.{bays_view}
 use Rattle.gfp_linear.specs.ChannelArrivals.{channel_arrivals, seen}
 use Rattle.unbundle_command.proofs.Runs.{none_more, run_more}
 use Rattle.unbundle_command.proofs.receiving.read_some.Goals as goal

@@ -1,6 +1,6 @@
 use Rattle.std.proofs.Common.{rules, ◌+◌, ◌-◌, ◌++◌, length, take, drop}
 use Rattle.odu_client.specs.View.{aligner_state}
-use Rattle.otn_ports.specs.Racks.{bays_view}
+use Rattle.port_base.specs.Racks.{bays_view}
 use Rattle.unbundle_command.proofs.Holding.{clients_twice}
 use Rattle.unbundle_command.proofs.Runs.{holds_same, more_taken, all_taken, piece_within}
 use Rattle.unbundle_command.proofs.receiving.take_all.Goals as goal

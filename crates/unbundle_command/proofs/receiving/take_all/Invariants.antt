@@ -1,7 +1,7 @@
 use Rattle.std.proofs.Common.{◌≤◌, ◌++◌, ◌-◌, ℕ, List, length, take}
 use Rattle.odu_client.specs.View.{aligner_state}
-use Rattle.otn_ports.specs.Racks.{bays_view}
-use Rattle.otn_ports.specs.Views.{BaysView}
+use Rattle.port_base.specs.Racks.{bays_view}
+use Rattle.port_base.specs.Views.{BaysView}
 use Rattle.unbundle_command.specs.Steps.Receiving.{HoldsAfter, OnlyClientsOut}
 use Rattle.unbundle_command.proofs.receiving.take_all.Given as goal
 

@@ -2,7 +2,7 @@ use Rattle.std.proofs.Common.{ℕ, List, take, sym, subst}
 use Rattle.odu_client.specs.AlignedRuns.{arrivals}
 use Rattle.odu_client.specs.Aligner.{AlignsBy}
 use Rattle.odu_client.specs.View.{aligner_state}
-use Rattle.otn_ports.specs.Racks.{bays_view}
+use Rattle.port_base.specs.Racks.{bays_view}
 use Rattle.unbundle_command.proofs.Runs.{all_read, holds_more}
 use Rattle.unbundle_command.proofs.receiving.take_some.Goals as goal
 

@@ -1,6 +1,6 @@
 use Rattle.std.proofs.Common.{◌≡◌, ◌≤◌, ◌+◌, ◌-◌, ◌*◌, ◌^◌, ◌++◌, List, length}
 use Rattle.arrayvec.specs.ArrayString.{array_string_len}
-use Rattle.otn_ports.specs.Views.{BaysView}
+use Rattle.port_base.specs.Views.{BaysView}
 use Rattle.gfp_linear.specs.ChannelArrivals.{ChannelArrival}
 use Rattle.unbundle_command.specs.Steps.Receiving.{OutputsStand}
 use Rattle.unbundle_command.specs.Unbundled.{channel_lines}

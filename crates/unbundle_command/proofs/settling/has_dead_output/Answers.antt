@@ -1,5 +1,5 @@
 use Rattle.std.proofs.Common.{arith}
-use Rattle.otn_ports.specs.Racks.{bays_view}
+use Rattle.port_base.specs.Racks.{bays_view}
 use Rattle.unbundle_command.proofs.Ends.{none_dead_more}
 use Rattle.unbundle_command.proofs.settling.has_dead_output.Goals as goal
 

@@ -1,4 +1,4 @@
-use Rattle.otn_ports.specs.Racks.{bays_view}
+use Rattle.port_base.specs.Racks.{bays_view}
 use Rattle.unbundle_command.specs.Steps.Unbundling.{DeadChannel}
 use Rattle.unbundle_command.proofs.settling.has_dead_output.Given as goal
 

@@ -1,13 +1,13 @@
 use Rattle.std.proofs.Common.{◌≡◌, ◌∙◌, sym, subst, rules}
-use Rattle.otn_ports.proofs.BaysLaws.{line_in_seen, line_in_set, only_line_in}
-use Rattle.otn_ports.specs.InPlace.{in_view}
-use Rattle.otn_ports.specs.PortViews.{sink_view, SinkWrites}
-use Rattle.otn_ports.specs.Racks.{bays_view, with_line_in}
-use Rattle.otn_ports.specs.declared.drain.Written.TheVariants as written
+use Rattle.port_base.proofs.BaysLaws.{line_in_seen, line_in_set, only_line_in}
+use Rattle.port_base.specs.InPlace.{in_view}
+use Rattle.port_base.specs.PortViews.{sink_view, SinkWrites}
+use Rattle.port_base.specs.Racks.{bays_view, with_line_in}
+use Rattle.port_base.specs.declared.drain.Written.TheVariants as written
 use Rattle.unbundle_command.specs.Unbundled.{report_text}
 use Rattle.tributary_line.specs.Settling.{ended_by}
 use Rattle.unbundle_command.specs.UnbundleLeft.{UnbundleRan}
-use Rattle.otn_ports.specs.declared.ended.Ended.TheVariants.{ReportFault}
+use Rattle.port_base.specs.declared.ended.Ended.TheVariants.{ReportFault}
 use Rattle.unbundle_command.proofs.Ends.{ended_so, ends_lost, ends_whole, whole_by}
 use Rattle.unbundle_command.proofs.Turns.{only_all}
 use Rattle.unbundle_command.proofs.settling.settle.Goals as goal

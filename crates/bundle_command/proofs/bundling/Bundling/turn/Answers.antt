@@ -1,9 +1,9 @@
 use Rattle.std.proofs.Common.{◌≡◌, ◌≤◌, ◌∷◌, [], ◌++◌, ◌∙◌, List, ℕ, drop, length, slice_range, sym, subst, take, arith, rules}
 use Rattle.std.proofs.lemmas.List.{length-take-le}
-use Rattle.otn_ports.proofs.BaysLaws.{line_out_seen, line_out_set, only_line_out}
-use Rattle.otn_ports.specs.OutPlace.{out_view}
-use Rattle.otn_ports.specs.Racks.{bays_view, with_line_out}
-use Rattle.otn_ports.specs.Views.{line_out_at}
+use Rattle.port_base.proofs.BaysLaws.{line_out_seen, line_out_set, only_line_out}
+use Rattle.port_base.specs.OutPlace.{out_view}
+use Rattle.port_base.specs.Racks.{bays_view, with_line_out}
+use Rattle.port_base.specs.Views.{line_out_at}
 use Rattle.tributary_line.specs.FeedTurn.{Completes, FeedStands}
 use Rattle.bundle_command.specs.BundleStream.{first_slot}
 use Rattle.bundle_command.proofs.Lists.{front_range}

@@ -1,5 +1,5 @@
 use Rattle.std.proofs.Common.{refl}
-use Rattle.otn_ports.specs.InPlace.{in_view}
+use Rattle.port_base.specs.InPlace.{in_view}
 use Rattle.packet_text.specs.LinesStand.{lines_view}
 use Rattle.bundle_command.proofs.Channels.{no_news, stays_over}
 use Rattle.bundle_command.proofs.channel.Channel.next.Goals as goal

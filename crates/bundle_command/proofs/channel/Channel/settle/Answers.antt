@@ -1,5 +1,5 @@
 use Rattle.std.proofs.Common.{◌≡◌, refl, rules}
-use Rattle.otn_ports.specs.InPlace.{in_view}
+use Rattle.port_base.specs.InPlace.{in_view}
 use Rattle.bundle_command.specs.declared.channel.Standing.TheVariants.{Going}
 use Rattle.bundle_command.proofs.Channels.{settled_one, stays_settled}
 use Rattle.bundle_command.proofs.channel.Channel.settle.Goals as goal

@@ -1,4 +1,4 @@
-use Rattle.otn_ports.specs.InPlace.{in_view}
+use Rattle.port_base.specs.InPlace.{in_view}
 use Rattle.bundle_command.proofs.Channels.{taken_one}
 use Rattle.bundle_command.proofs.channel.Channel.take.Goals as goal
 

@@ -1,7 +1,7 @@
 use Rattle.std.proofs.Common.{rules, ◌≡◌, refl, sym, ap, ◌∙◌, arith, take, length, ◌+◌, ◌++◌, subst, append-nil, append_assoc}
 use Rattle.gfp_frames.proofs.Idles.{end_put}
 use Rattle.odu_client.proofs.Slices.{rest_size, rest_length, rest_more, all_taken}
-use Rattle.otn_ports.specs.Racks.{bays_view}
+use Rattle.port_base.specs.Racks.{bays_view}
 use Rattle.bundle_command.specs.Steps.Framed.{FramesStand}
 use Rattle.bundle_command.proofs.Frames.{areready_on}
 use Rattle.bundle_command.proofs.Given.{only_none, only_twice}

@@ -1,5 +1,5 @@
 use Rattle.std.proofs.Common.{refl}
-use Rattle.otn_ports.specs.Racks.{bays_view}
+use Rattle.port_base.specs.Racks.{bays_view}
 use Rattle.odu_client.specs.AlignedRuns.{payload_of}
 use Rattle.bundle_command.proofs.Frames.{frame_made}
 use Rattle.bundle_command.proofs.Given.{stands_ready}

@@ -1,5 +1,5 @@
 use Rattle.std.proofs.Common.{refl}
-use Rattle.otn_ports.specs.Racks.{bays_view}
+use Rattle.port_base.specs.Racks.{bays_view}
 use Rattle.bundle_command.proofs.Asked.{asks}
 use Rattle.bundle_command.proofs.weaving.Weaving.ask.Goals as goal
 

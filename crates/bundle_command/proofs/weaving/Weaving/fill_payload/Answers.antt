@@ -1,7 +1,7 @@
 use Rattle.std.proofs.Common.{◌++◌, sym, ap, ◌∙◌, length, subst}
 use Rattle.odu_client.proofs.PayloadRows.{filled, payload_filled, rows_size}
 use Rattle.odu_client.specs.AlignedRuns.{payload_of}
-use Rattle.otn_ports.specs.Racks.{bays_view}
+use Rattle.port_base.specs.Racks.{bays_view}
 use Rattle.bundle_command.specs.Steps.Channels.{WeavingStands}
 use Rattle.bundle_command.proofs.Given.{four_rows, only_twice}
 use Rattle.bundle_command.proofs.weaving.Weaving.fill_payload.Goals as goal

@@ -1,4 +1,4 @@
-use Rattle.otn_ports.specs.Racks.{bays_view}
+use Rattle.port_base.specs.Racks.{bays_view}
 use Rattle.bundle_command.proofs.Given.{only_none, only_twice, ready_on}
 use Rattle.bundle_command.proofs.weaving.Weaving.have_frame.Goals as goal
 

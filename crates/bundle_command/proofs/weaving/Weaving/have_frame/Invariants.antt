@@ -1,6 +1,6 @@
 use Rattle.std.proofs.Common.{ℕ, List, length}
-use Rattle.otn_ports.specs.Racks.{bays_view}
-use Rattle.otn_ports.specs.Views.{BaysView}
+use Rattle.port_base.specs.Racks.{bays_view}
+use Rattle.port_base.specs.Views.{BaysView}
 use Rattle.bundle_command.specs.Steps.Channels.{IsReady, WeavingReady, left_to_ask}
 use Rattle.bundle_command.specs.Steps.Framed.{OnlyInputs}
 use Rattle.bundle_command.proofs.weaving.Weaving.have_frame.Given as goal

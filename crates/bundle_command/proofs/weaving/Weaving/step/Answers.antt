@@ -1,6 +1,6 @@
 use Rattle.std.proofs.Common.{◌≡◌, ◌++◌, ◌∙◌, List, ℕ, ap, length, subst, sym, take}
 use Rattle.std.proofs.Math.Seq.{take-length}
-use Rattle.otn_ports.specs.Racks.{bays_view}
+use Rattle.port_base.specs.Racks.{bays_view}
 use Rattle.bundle_command.specs.Steps.Channels.{WeavingReady, WeavingStands}
 use Rattle.bundle_command.proofs.Given.{stands_ready}
 use Rattle.bundle_command.proofs.weaving.Weaving.step.Goals as goal

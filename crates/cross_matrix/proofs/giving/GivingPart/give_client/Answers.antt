@@ -1,5 +1,5 @@
 use Rattle.std.proofs.Common.{subst}
-use Rattle.otn_ports.specs.OutPlace.{out_view}
+use Rattle.port_base.specs.OutPlace.{out_view}
 use Rattle.cross_matrix.specs.Receiving.{ReceiverStands}
 use Rattle.cross_matrix.specs.Parts.{OnReceiver}
 use Rattle.cross_matrix.proofs.giving.GivingPart.give_client.Goals as goal

@@ -1,6 +1,6 @@
 use Rattle.std.proofs.Common.{sym, ◌∙◌}
-use Rattle.otn_ports.specs.OutPlace.{out_view}
-use Rattle.otn_ports.proofs.GivenLaws.{dead_of}
+use Rattle.port_base.specs.OutPlace.{out_view}
+use Rattle.port_base.proofs.GivenLaws.{dead_of}
 use Rattle.cross_matrix.proofs.LineCounts.{held_dead, held_more}
 use Rattle.cross_matrix.proofs.held_lines.HeldLines.add.Goals as goal
 

@@ -1,10 +1,10 @@
 use Rattle.std.proofs.Common.{◌≡◌, ◌≤◌, ℕ, List, ap, sym, subst, take, length, ◌∙◌, arith, rules}
 use Rattle.std.proofs.lemmas.List.{length-take-le}
-use Rattle.otn_ports.specs.Given.{Gained}
-use Rattle.otn_ports.specs.OutPlace.{out_view}
-use Rattle.otn_ports.specs.Views.{Live}
-use Rattle.otn_ports.specs.Writes.{IsWriting}
-use Rattle.otn_ports.specs.declared.drain.Written.TheVariants as written
+use Rattle.port_base.specs.Given.{Gained}
+use Rattle.port_base.specs.OutPlace.{out_view}
+use Rattle.port_base.specs.Views.{Live}
+use Rattle.port_base.specs.Writes.{IsWriting}
+use Rattle.port_base.specs.declared.drain.Written.TheVariants as written
 use Rattle.device_model.specs.Numbers.{whole_lines}
 use Rattle.cross_matrix.specs.Receiving.{HeldView}
 use Rattle.cross_matrix.specs.Steps.Receiving.{LinesHeld}

@@ -1,4 +1,4 @@
-use Rattle.otn_ports.specs.OutPlace.{out_view}
+use Rattle.port_base.specs.OutPlace.{out_view}
 use Rattle.cross_matrix.proofs.LineCounts.{none_held}
 use Rattle.cross_matrix.proofs.held_lines.HeldLines.make_room.Goals as goal
 

@@ -1,5 +1,5 @@
 use Rattle.std.proofs.Common.{◌∙◌, sym, subst}
-use Rattle.otn_ports.specs.OutPlace.{out_view}
+use Rattle.port_base.specs.OutPlace.{out_view}
 use Rattle.cross_matrix.specs.Parts.{IsToClient, ClientOutStands}
 use Rattle.cross_matrix.specs.Pipes.{PipeView, PipeStands}
 use Rattle.cross_matrix.proofs.PipeMoves.{client_gave}

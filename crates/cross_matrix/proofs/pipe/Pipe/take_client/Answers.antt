@@ -1,6 +1,6 @@
 use Rattle.std.proofs.Common.{◌≡◌, ◌-◌, ◌∙◌, ap, sym, subst}
 use Rattle.odu_client.specs.ClientInput.{pace_of}
-use Rattle.otn_ports.specs.InPlace.{in_view}
+use Rattle.port_base.specs.InPlace.{in_view}
 use Rattle.cross_matrix.specs.Parts.{IsOfClient, ClientInStands}
 use Rattle.cross_matrix.specs.Pipes.{PipeView, IsPipeOf, ClientTook}
 use Rattle.cross_matrix.proofs.PipeMoves.{own_pace, client_took}

@@ -1,7 +1,7 @@
 use Rattle.std.proofs.Common.{◌++◌, sym, subst, refl}
 use Rattle.odu_client.specs.View.{aligner_state}
 use Rattle.odu_client.specs.ClientOutput.{arriving_packets}
-use Rattle.otn_ports.specs.OutPlace.{out_view}
+use Rattle.port_base.specs.OutPlace.{out_view}
 use Rattle.cross_matrix.specs.Receiving.{ReceiverView, ReceiverStands}
 use Rattle.cross_matrix.proofs.Runs.{holds_first, stands_last}
 use Rattle.cross_matrix.proofs.receiver.Receiver.take.Goals as goal

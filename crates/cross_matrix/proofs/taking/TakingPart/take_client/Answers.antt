@@ -1,6 +1,6 @@
 use Rattle.std.proofs.Common.{◌≡◌, ◌≤◌, ◌∙◌, List, ℕ, length, take, arith, sym, subst}
 use Rattle.std.proofs.lemmas.List.{length-take-le}
-use Rattle.otn_ports.specs.InPlace.{in_view}
+use Rattle.port_base.specs.InPlace.{in_view}
 use Rattle.cross_matrix.specs.Parts.{ClientInStands}
 use Rattle.cross_matrix.specs.Steps.Parts.{TextTook}
 use Rattle.cross_matrix.specs.declared.taking.TakingPart.{TakingPart}

@@ -1,6 +1,6 @@
 use Rattle.std.proofs.Common.{◌≡◌, ℕ, arith, refl, subst, ap, ◌∙◌}
 use Rattle.otn_base.specs.LineSlots.{slots_of}
-use Rattle.otn_ports.specs.InPlace.{in_view}
+use Rattle.port_base.specs.InPlace.{in_view}
 use Rattle.line_side.specs.LineStands.{LineView}
 use Rattle.line_side.proofs.Hunting.{HuntsOn, hunt_begins, hunt_passes, hunt_locks, hunt_ends, hunt_fails, tries_as}
 use Rattle.multiframe.proofs.TurnLaw.{some_slots}

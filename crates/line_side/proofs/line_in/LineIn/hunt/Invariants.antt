@@ -1,5 +1,5 @@
 use Rattle.otn_base.specs.LineSlots.{slots_of}
-use Rattle.otn_ports.specs.InPlace.{in_view}
+use Rattle.port_base.specs.InPlace.{in_view}
 use Rattle.line_side.specs.Steps.Reader.{AsksNoMore}
 use Rattle.line_side.proofs.Hunting.{HuntsOn}
 use Rattle.line_side.proofs.line_in.LineIn.hunt.Given as goal

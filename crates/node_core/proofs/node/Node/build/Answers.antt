@@ -3,7 +3,7 @@ use Rattle.node_moments.specs.NodeView.{NodeView}
 use Rattle.node_moments.proofs.Building.{IsNewNode, first_moment}
 use Rattle.node_moments.proofs.NodesKept.{first_node}
 use Rattle.node_moments.proofs.PlanPieces.{all_left}
-use Rattle.otn_ports.specs.Views.{BaysView}
+use Rattle.port_base.specs.Views.{BaysView}
 use Rattle.node_core.proofs.node.Node.build.Goals as goal
 
 pub returns-clause-stands : goal.returns-clause-stands

@@ -1,4 +1,4 @@
-use Rattle.otn_ports.specs.Racks.{bays_view}
+use Rattle.port_base.specs.Racks.{bays_view}
 use Rattle.node_moments.proofs.Fences.{fence_moves}
 use Rattle.node_core.proofs.node.Node.fence.Goals as goal
 

@@ -1,5 +1,5 @@
 use Rattle.std.proofs.Common.{◌≡◌, ◌≤◌, ◌||◌, sym, subst}
-use Rattle.otn_ports.specs.Racks.{bays_view}
+use Rattle.port_base.specs.Racks.{bays_view}
 use Rattle.device_model.specs.declared.outcome.Outcome.{Outcome}
 use Rattle.node_core.specs.Steps.Asking.{outcome_by}
 use Rattle.node_moments.specs.NodeView.{NodeView}

@@ -1,11 +1,11 @@
 use Rattle.std.proofs.Common.{◌≡◌, true}
 use Rattle.otn_base.specs.declared.kind.PortName.TheVariants.{LineIn, LineOut, ClientIn, ClientOut}
-use Rattle.otn_ports.specs.InPlace.{in_view}
-use Rattle.otn_ports.specs.OutPlace.{out_view}
-use Rattle.otn_ports.specs.Views.{line_in_at, line_out_at, client_in_at, client_out_at}
-use Rattle.otn_ports.specs.Racks.{bays_view, with_line_in, with_line_out, with_client_in, with_client_out}
-use Rattle.otn_ports.proofs.BaysLaws.{line_in_seen, line_in_set, only_line_in, line_out_seen, line_out_set, only_line_out, client_in_seen, client_in_set, only_client_in, client_out_seen, client_out_set, only_client_out}
-use Rattle.otn_ports.proofs.PlacesLaws.{only_line_in_port, only_line_out_port, only_client_in_port, only_client_out_port}
+use Rattle.port_base.specs.InPlace.{in_view}
+use Rattle.port_base.specs.OutPlace.{out_view}
+use Rattle.port_base.specs.Views.{line_in_at, line_out_at, client_in_at, client_out_at}
+use Rattle.port_base.specs.Racks.{bays_view, with_line_in, with_line_out, with_client_in, with_client_out}
+use Rattle.port_base.proofs.BaysLaws.{line_in_seen, line_in_set, only_line_in, line_out_seen, line_out_set, only_line_out, client_in_seen, client_in_set, only_client_in, client_out_seen, client_out_set, only_client_out}
+use Rattle.port_base.proofs.PlacesLaws.{only_line_in_port, only_line_out_port, only_client_in_port, only_client_out_port}
 use Rattle.node_moments.specs.NodeView.{is_ready}
 use Rattle.node_moments.specs.Steps.NodeMoves.{LineInMove, LineOutMove, ClientInMove, ClientOutMove}
 use Rattle.node_moments.proofs.LineInMoves.{line_in_moves}

@@ -1,6 +1,6 @@
 use Rattle.std.proofs.Common.{◌≡◌, true, refl, sym, subst}
 use Rattle.otn_base.specs.declared.kind.PortName.TheVariants as port
-use Rattle.otn_ports.specs.InPlace.{in_view}
+use Rattle.port_base.specs.InPlace.{in_view}
 use Rattle.node_moments.specs.Steps.NodeMoves.{OnePiece, ClientInMove}
 use Rattle.node_moments.specs.NodeView.{NodeView, is_ready}
 use Rattle.turn_pieces.specs.Pieces.{is_open}

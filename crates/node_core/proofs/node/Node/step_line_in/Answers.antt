@@ -1,7 +1,7 @@
 use Rattle.std.proofs.Common.{◌≡◌, ◌<◌, true, Some, set, length, slice_get, refl, sym, ap, subst, arith}
 use Rattle.std.proofs.lemmas.Option.{slice_get_read}
 use Rattle.otn_base.specs.declared.kind.PortName.TheVariants as port
-use Rattle.otn_ports.specs.InPlace.{in_view}
+use Rattle.port_base.specs.InPlace.{in_view}
 use Rattle.node_moments.specs.Steps.NodeMoves.{LineInMove}
 use Rattle.node_moments.specs.NodeView.{NodeView, is_ready}
 use Rattle.turn_pieces.specs.Pieces.{is_open}

@@ -1,7 +1,7 @@
 use Rattle.std.proofs.Common.{◌≡◌, ◌<◌, true, Some, set, length, slice_get, refl, sym, ap, subst, arith}
 use Rattle.std.proofs.lemmas.Option.{slice_get_read}
 use Rattle.otn_base.specs.declared.kind.PortName.TheVariants as port
-use Rattle.otn_ports.specs.OutPlace.{out_view}
+use Rattle.port_base.specs.OutPlace.{out_view}
 use Rattle.node_links.specs.LineFrames.{FrameWritten}
 use Rattle.node_moments.specs.Steps.NodeMoves.{LineOutMove}
 use Rattle.node_moments.specs.NodeView.{NodeView, is_ready, done_at}

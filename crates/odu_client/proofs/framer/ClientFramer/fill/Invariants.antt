@@ -1,6 +1,6 @@
 use Rattle.std.proofs.Common.{◌≡◌, ◌≢◌, ◌<◌, ◌≤◌, ◌+◌, ◌-◌, ◌++◌, ℕ, List, length, take}
-use Rattle.otn_ports.specs.InPlace.{in_view}
-use Rattle.otn_ports.specs.Views.{InView}
+use Rattle.port_base.specs.InPlace.{in_view}
+use Rattle.port_base.specs.Views.{InView}
 use Rattle.packet_text.specs.LinesStand.{lines_view}
 use Rattle.packet_text.specs.declared.line.Line.TheVariants.{Packet}
 use Rattle.odu_client.specs.Framing.{ClientStands}

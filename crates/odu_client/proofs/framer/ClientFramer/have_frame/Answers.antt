@@ -1,6 +1,6 @@
 use Rattle.std.proofs.Common.{◌≡◌, refl, sym, ap, subst, ◌∙◌, arith, drop}
 use Rattle.std.proofs.lemmas.List.{drop_all}
-use Rattle.otn_ports.specs.InPlace.{in_view}
+use Rattle.port_base.specs.InPlace.{in_view}
 use Rattle.packet_text.specs.LinesStand.{lines_view}
 use Rattle.odu_client.specs.AlignedRuns.{payload_of}
 use Rattle.odu_client.specs.Framing.{FramerState}

@@ -1,5 +1,5 @@
 use Rattle.std.proofs.Common.{◌≡◌, ◌≢◌, ◌≤◌, ◌-◌, length, take}
-use Rattle.otn_ports.specs.InPlace.{in_view}
+use Rattle.port_base.specs.InPlace.{in_view}
 use Rattle.packet_text.specs.LinesStand.{lines_view}
 use Rattle.packet_text.specs.declared.line.Line.TheVariants.{Packet}
 use Rattle.odu_client.specs.Steps.Framing.{StreamsBy, IdlesBy}

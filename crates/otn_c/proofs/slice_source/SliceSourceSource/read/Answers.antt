@@ -1,6 +1,6 @@
 use Rattle.std.proofs.Common.{Some, ap, drop, arith}
 use Rattle.std.proofs.lemmas.Grind.{common_steps}
-use Rattle.otn_ports.proofs.Lists.{copied}
+use Rattle.port_base.proofs.Lists.{copied}
 use Rattle.otn_c.proofs.slice_source.SliceSourceSource.read.Goals as goal
 
 pub returns-clause-bytes : goal.returns-clause-bytes

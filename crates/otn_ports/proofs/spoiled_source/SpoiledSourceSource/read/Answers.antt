@@ -1,6 +1,6 @@
 use Rattle.std.proofs.Common.{◌≡◌, ◌≤◌, ◌+◌, ◌-◌, ℕ, length, take, drop, arith, rules}
 use Rattle.std.proofs.lemmas.List.{length-take-le}
-use Rattle.otn_ports.specs.Bytes.{raised}
+use Rattle.port_base.specs.Bytes.{raised}
 use Rattle.otn_ports.specs.Spoiling.{mask_at, spoiled}
 use Rattle.otn_ports.proofs.SpoilLaws.{read_spoiled, left_pairs}
 use Rattle.otn_ports.proofs.spoiled_source.SpoiledSourceSource.read.Goals as goal

@@ -1,5 +1,5 @@
 use Rattle.std.proofs.Common.{◌∙◌, arith, ◌≤◌, ◌-◌, length}
-use Rattle.otn_ports.proofs.TakenTwice.{appends_more}
+use Rattle.port_base.proofs.TakenTwice.{appends_more}
 use Rattle.otn_ports.proofs.writer_sink.WriterSink.write_on.Goals as goal
 
 pub loop-done-preserved : goal.loop-done-preserved

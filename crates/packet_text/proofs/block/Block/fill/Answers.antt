@@ -1,6 +1,6 @@
 use Rattle.std.proofs.Common.{ap, length, ◌∙◌}
 use Rattle.std.proofs.lemmas.List.{length-take-le}
-use Rattle.otn_ports.specs.AtHand.{place_at_hand}
+use Rattle.port_base.specs.AtHand.{place_at_hand}
 use Rattle.packet_text.proofs.block.Block.fill.Goals as goal
 
 pub invariant_of-self : goal.invariant_of-self

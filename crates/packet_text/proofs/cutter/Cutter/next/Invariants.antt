@@ -1,5 +1,5 @@
 use Rattle.std.proofs.Common.{◌≡◌, ◌≤◌, ◌+◌, true, length}
-use Rattle.otn_ports.specs.InPlace.{in_view}
+use Rattle.port_base.specs.InPlace.{in_view}
 use Rattle.packet_text.specs.Cutting.{cut_view}
 use Rattle.packet_text.specs.Steps.Cutting.{Goes}
 use Rattle.packet_text.proofs.Cuts.{left}

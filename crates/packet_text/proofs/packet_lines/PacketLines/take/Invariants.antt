@@ -1,6 +1,6 @@
 use Rattle.std.proofs.Common.{◌≡◌, ◌-◌, ℕ, List, true}
-use Rattle.otn_ports.specs.Views.{InView}
-use Rattle.otn_ports.specs.InPlace.{in_view}
+use Rattle.port_base.specs.Views.{InView}
+use Rattle.port_base.specs.InPlace.{in_view}
 use Rattle.packet_text.specs.LinesStand.{lines_view}
 use Rattle.packet_text.specs.Steps.Finding.{Seeks, Finds}
 use Rattle.packet_text.specs.declared.found.Found.TheVariants.{Empty}

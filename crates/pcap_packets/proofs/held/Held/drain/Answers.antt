@@ -1,5 +1,5 @@
 use Rattle.std.proofs.Common.{◌∙◌, ap, take}
-use Rattle.otn_ports.specs.Bytes.{after}
+use Rattle.port_base.specs.Bytes.{after}
 use Rattle.pcap_packets.specs.HeldBytes.{held}
 use Rattle.pcap_packets.proofs.Windows.{went_more}
 use Rattle.pcap_packets.proofs.held.Held.drain.Goals as goal

@@ -1,6 +1,6 @@
 use Rattle.std.proofs.Common.{◌≢◌, ◌≤◌, ◌-◌, ◌∙◌, length, arith, ap, length-drop, rules}
-use Rattle.otn_ports.specs.declared.drain.Written.TheVariants.{Lost}
-use Rattle.otn_ports.proofs.TakenTwice.{sent_more}
+use Rattle.port_base.specs.declared.drain.Written.TheVariants.{Lost}
+use Rattle.port_base.proofs.TakenTwice.{sent_more}
 use Rattle.pcap_packets.proofs.ManyLines.{rest_all}
 use Rattle.pcap_packets.proofs.sink.PcapSinkSink.write_lines.Goals as goal
 

@@ -1,5 +1,5 @@
 use Rattle.std.proofs.Common.{◌≡◌, ◌≤◌, ◌-◌, length, take}
-use Rattle.otn_ports.specs.Bytes.{after}
+use Rattle.port_base.specs.Bytes.{after}
 use Rattle.pcap_packets.specs.Sinks.{written_got, written_faults, written_to}
 use Rattle.pcap_packets.proofs.sink.PcapSinkSink.write_lines.Given as goal
 

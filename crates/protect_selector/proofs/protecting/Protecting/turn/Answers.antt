@@ -1,14 +1,14 @@
 use Rattle.std.proofs.Common.{◌≡◌, ◌≤◌, ◌-◌, [], ◌∷◌, ◌++◌, drop, length, slice_range, sym, subst, ◌∙◌, rules}
-use Rattle.otn_ports.proofs.BaysLaws.{line_in_seen, line_in_set, only_line_in, line_out_seen, line_out_set, only_line_out}
-use Rattle.otn_ports.specs.InPlace.{in_view}
-use Rattle.otn_ports.specs.OutPlace.{out_view}
-use Rattle.otn_ports.specs.PortViews.{sink_view, SinkWrites}
-use Rattle.otn_ports.specs.declared.drain.Written.TheVariants as written
+use Rattle.port_base.proofs.BaysLaws.{line_in_seen, line_in_set, only_line_in, line_out_seen, line_out_set, only_line_out}
+use Rattle.port_base.specs.InPlace.{in_view}
+use Rattle.port_base.specs.OutPlace.{out_view}
+use Rattle.port_base.specs.PortViews.{sink_view, SinkWrites}
+use Rattle.port_base.specs.declared.drain.Written.TheVariants as written
 use Rattle.tributary_line.specs.FeedTurn.{FeedStands}
 use Rattle.protect_selector.specs.OfLines.{bytes_of, switch_line}
 use Rattle.protect_selector.specs.Protecting.{ends_of}
-use Rattle.otn_ports.specs.Racks.{bays_view, with_line_in, with_line_out}
-use Rattle.otn_ports.specs.Views.{line_out_at}
+use Rattle.port_base.specs.Racks.{bays_view, with_line_in, with_line_out}
+use Rattle.port_base.specs.Views.{line_out_at}
 use Rattle.protect_selector.proofs.ProtectTurns.{turn_chosen, whole_turn, lost_turn, only_both, only_all, seen_of, skip_within, span}
 use Rattle.protect_selector.proofs.protecting.Protecting.turn.Goals as goal
 

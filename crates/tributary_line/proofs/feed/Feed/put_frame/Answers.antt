@@ -1,5 +1,5 @@
 use Rattle.std.proofs.Common.{sym, refl, subst}
-use Rattle.otn_ports.specs.OutPlace.{out_view}
+use Rattle.port_base.specs.OutPlace.{out_view}
 use Rattle.line_side.specs.LineOutput.{LineMade}
 use Rattle.tributary_line.proofs.FeedTurns.{frame_goes}
 use Rattle.tributary_line.proofs.feed.Feed.put_frame.Goals as goal

@@ -1,6 +1,6 @@
 use Rattle.std.proofs.Common.{◌≡◌, ◌∙◌, ◌++◌, [], ◌∷◌, sym, subst, slice_range, arith}
-use Rattle.otn_ports.proofs.GivenLaws.{gained_twice}
-use Rattle.otn_ports.specs.OutPlace.{out_view}
+use Rattle.port_base.proofs.GivenLaws.{gained_twice}
+use Rattle.port_base.specs.OutPlace.{out_view}
 use Rattle.tributary_line.specs.FeedTurn.{FeedStands}
 use Rattle.tributary_line.specs.Steps.FeedTurn.{FeedIn}
 use Rattle.tributary_line.proofs.FeedTurns.{begins_turn, ends_turn}

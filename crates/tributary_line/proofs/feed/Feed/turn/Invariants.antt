@@ -1,7 +1,7 @@
 use Rattle.std.proofs.Common.{◌≡◌, ℕ, List}
-use Rattle.otn_ports.specs.Given.{Gained}
-use Rattle.otn_ports.specs.OutPlace.{out_view}
-use Rattle.otn_ports.specs.Views.{OutView}
+use Rattle.port_base.specs.Given.{Gained}
+use Rattle.port_base.specs.OutPlace.{out_view}
+use Rattle.port_base.specs.Views.{OutView}
 use Rattle.tributary_model.specs.Places.{Tributary}
 use Rattle.tributary_line.specs.Steps.FeedTurn.{FeedIn, IsBegun}
 use Rattle.tributary_line.proofs.feed.Feed.turn.Given as goal

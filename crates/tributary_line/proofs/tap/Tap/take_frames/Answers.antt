@@ -1,5 +1,5 @@
 use Rattle.std.proofs.Common.{◌∙◌, ◌+◌, ◌++◌, refl, ap}
-use Rattle.otn_ports.specs.InPlace.{in_view}
+use Rattle.port_base.specs.InPlace.{in_view}
 use Rattle.tributary_line.proofs.TapTurns.{moves_none, moves_twice}
 use Rattle.tributary_line.proofs.tap.Tap.take_frames.Goals as goal
 

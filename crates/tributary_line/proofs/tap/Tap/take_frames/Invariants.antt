@@ -1,6 +1,6 @@
 use Rattle.std.proofs.Common.{◌≡◌, ℕ, List}
-use Rattle.otn_ports.specs.InPlace.{in_view}
-use Rattle.otn_ports.specs.Views.{InView}
+use Rattle.port_base.specs.InPlace.{in_view}
+use Rattle.port_base.specs.Views.{InView}
 use Rattle.tributary_model.specs.Places.{Tributary}
 use Rattle.tributary_line.specs.TapTurn.{TapStands, IsInStep}
 use Rattle.tributary_line.specs.Steps.TapTurn.{TapMoves}

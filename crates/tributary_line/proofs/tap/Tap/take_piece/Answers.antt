@@ -1,5 +1,5 @@
 use Rattle.std.proofs.Common.{◌∙◌, ◌++◌, sym}
-use Rattle.otn_ports.specs.InPlace.{in_view}
+use Rattle.port_base.specs.InPlace.{in_view}
 use Rattle.line_side.specs.LineForm.{plain_otu2}
 use Rattle.tributary_line.proofs.TapPieces.{piece_none, piece_frame}
 use Rattle.tributary_line.proofs.tap.Tap.take_piece.Goals as goal

@@ -1,6 +1,6 @@
 use Rattle.std.proofs.Common.{◌++◌, ◌∙◌, ap, sym, subst}
 use Rattle.std.specs.Prelude.{slice_range}
-use Rattle.otn_ports.specs.InPlace.{in_view}
+use Rattle.port_base.specs.InPlace.{in_view}
 use Rattle.line_side.specs.LineForm.{plain_otu2}
 use Rattle.tributary_line.specs.TapTurn.{TapView}
 use Rattle.tributary_line.specs.Steps.TapTurn.{TapMoves}

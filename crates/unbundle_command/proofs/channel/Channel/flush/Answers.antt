@@ -1,6 +1,6 @@
 use Rattle.std.proofs.Common.{◌≡◌, ℕ, List, length, take, ap, sym, subst, rules}
-use Rattle.otn_ports.specs.OutPlace.{out_view}
-use Rattle.otn_ports.specs.Sent.{IsSent}
+use Rattle.port_base.specs.OutPlace.{out_view}
+use Rattle.port_base.specs.Sent.{IsSent}
 use Rattle.unbundle_command.specs.Receiving.{ChannelView}
 use Rattle.unbundle_command.specs.Steps.Receiving.{LinesHeld}
 use Rattle.unbundle_command.proofs.Holding.{lines_flushed}

@@ -1,4 +1,4 @@
-use Rattle.otn_ports.specs.OutPlace.{out_view}
+use Rattle.port_base.specs.OutPlace.{out_view}
 use Rattle.unbundle_command.proofs.Holding.{lines_more}
 use Rattle.unbundle_command.proofs.channel.Channel.take.Goals as goal
 

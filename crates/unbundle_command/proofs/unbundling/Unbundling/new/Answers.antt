@@ -1,6 +1,6 @@
 use Rattle.std.proofs.Common.{[], subst}
 use Rattle.otn_base.specs.LineSlots.{LineSlots}
-use Rattle.otn_ports.specs.Views.{InView}
+use Rattle.port_base.specs.Views.{InView}
 use Rattle.tributary_model.specs.Places.{tributary_of}
 use Rattle.tributary_line.specs.TapTurn.{TapStands}
 use Rattle.unbundle_command.proofs.Turns.{begins}

@@ -1,9 +1,9 @@
 use Rattle.std.proofs.Common.{◌≡◌, ◌≤◌, ◌-◌, ◌++◌, ℕ, List, length, slice_range, sym, subst, arith, rules}
 use Rattle.odu_client.specs.View.{aligner_state}
-use Rattle.otn_ports.proofs.BaysLaws.{line_in_seen, line_in_set, only_line_in}
-use Rattle.otn_ports.specs.InPlace.{in_view}
-use Rattle.otn_ports.specs.Racks.{bays_view, with_line_in}
-use Rattle.otn_ports.specs.Views.{BaysView}
+use Rattle.port_base.proofs.BaysLaws.{line_in_seen, line_in_set, only_line_in}
+use Rattle.port_base.specs.InPlace.{in_view}
+use Rattle.port_base.specs.Racks.{bays_view, with_line_in}
+use Rattle.port_base.specs.Views.{BaysView}
 use Rattle.unbundle_command.specs.Steps.Receiving.{HoldsAfter}
 use Rattle.unbundle_command.proofs.Turns.{turn_gone, only_all, span}
 use Rattle.unbundle_command.proofs.unbundling.Unbundling.turn.Goals as goal

@@ -1,7 +1,0 @@
-use Rattle.std.proofs.Common.{refl, arith}
-use Rattle.std.proofs.lemmas.Option.{slice_get_read}
-use Rattle.otn_ports.proofs.SameRack.{same_rack}
-use Rattle.otn_ports.proofs.bays.Rack.client_in_mut.Goals as goal
-
-pub returns : goal.returns
-returns g c = ((refl, λ w. same_rack _ _ _ _ _ _), record { writes_back = tt; value = slice_get_read _ 16 _ _ (grind arith) c.requires c.index_mut.ensures.value })

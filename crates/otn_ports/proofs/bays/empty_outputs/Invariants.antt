@@ -1,6 +1,0 @@
-use Rattle.std.proofs.Common.{◌≡◌, replicate}
-use Rattle.otn_ports.specs.declared.out_place.OutPlaceOf.TheVariants.{Empty}
-use Rattle.otn_ports.proofs.bays.empty_outputs.Given as goal
-
-abbrev pub invariant-loop : goal.invariant-loop
-invariant-loop g l = l.places.items ≡ replicate l.counter Empty

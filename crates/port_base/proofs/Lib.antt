@@ -1,0 +1,10 @@
+pub mod BaysLaws
+pub mod FrontLaws
+pub mod GivenLaws
+pub mod Lists
+pub mod OneOutPlace
+pub mod PlacesLaws
+pub mod PortLaws
+pub mod SameRack
+pub mod SentLaws
+pub mod TakenTwice

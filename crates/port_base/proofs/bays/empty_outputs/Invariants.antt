@@ -1,0 +1,6 @@
+use Rattle.std.proofs.Common.{◌≡◌, replicate}
+use Rattle.port_base.specs.declared.out_place.OutPlaceOf.TheVariants.{Empty}
+use Rattle.port_base.proofs.bays.empty_outputs.Given as goal
+
+abbrev pub invariant-loop : goal.invariant-loop
+invariant-loop g l = l.places.items ≡ replicate l.counter Empty
