@@ -123,7 +123,8 @@ class Page:
 
     def run(self, script):
         """What an expression is in the page."""
-        answer = self.call('Runtime.evaluate', expression=script, returnByValue=True, awaitPromise=True, userGesture=True)
+        answer = self.call('Runtime.evaluate', expression=script, returnByValue=True, awaitPromise=True,
+                           userGesture=True)
         if 'exceptionDetails' in answer:
             details = answer['exceptionDetails']
             raise Fault(details.get('exception', {}).get('description', details['text']))
@@ -139,7 +140,8 @@ class Page:
         return time.monotonic() - begin
 
     def size(self, width, height, dark=False, scale=1):
-        self.call('Emulation.setDeviceMetricsOverride', width=width, height=height, deviceScaleFactor=scale, mobile=False)
+        self.call('Emulation.setDeviceMetricsOverride', width=width, height=height, deviceScaleFactor=scale,
+                  mobile=False)
         theme = {'name': 'prefers-color-scheme', 'value': 'dark' if dark else 'light'}
         self.call('Emulation.setEmulatedMedia', features=[theme])
 

@@ -30,7 +30,8 @@ def place(port, slot):
 
 
 def connection(name, source, to, *keys):
-    return '\n'.join(['[[connection]]', f'name = {json.dumps(name)}', 'kind = "odu0"', f'from = {source}', f'to = {to}', *keys, ''])
+    lines = ['[[connection]]', f'name = {json.dumps(name)}', 'kind = "odu0"', f'from = {source}', f'to = {to}']
+    return '\n'.join([*lines, *keys, ''])
 
 
 def run(otn, node):
@@ -41,8 +42,8 @@ def run(otn, node):
 
 
 def signals(otn, folder):
-    """`signals`: what a node sends on whose input is lost for a while, and LCK and OCI beside it. A sink that is down puts
-    AIS into its client's place."""
+    """`signals`: what a node sends on whose input is lost for a while, and LCK and OCI beside it. A sink that is down
+    puts AIS into its client's place."""
     node = folder / 'node-signals'
     node.mkdir()
     customers = [connection('through', place(1, 1), place(3, 2)), connection('held', '{ signal = "lck" }', place(4, 3)),
@@ -57,13 +58,14 @@ def signals(otn, folder):
 
 
 def hostile(otn, folder):
-    """`evil.<b>x`: texts that a browser would take as its own, in the section trace, in a path trace and in packets. The
-    plan that names its customers so is for the page alone: otn refuses it."""
+    """`evil.<b>x`: texts that a browser would take as its own, in the section trace, in a path trace and in packets.
+    The plan that names its customers so is for the page alone: otn refuses it."""
     node = folder / 'node-evil'
     node.mkdir()
     packets = [EVIL.encode(), END.encode(), bytes(12) + b'\x08\x00' + EVIL.encode(), b'<script>hacked()</script>']
     (node / 'client-00.in').write_text('\n'.join(p.hex() for p in packets) + '\n')
-    (node / 'plan.toml').write_text('turns = 40\n' + connection('good', '{ client = 0 }', place(1, 1), 'trace = "<b id=evil>"'))
+    good = connection('good', '{ client = 0 }', place(1, 1), 'trace = "<b id=evil>"')
+    (node / 'plan.toml').write_text('turns = 40\n' + good)
     run(otn, node)
     data = bytearray((node / 'line-0.out').read_bytes())
     for frame in range(len(data) // FRAME):
@@ -91,7 +93,7 @@ def receiver(folder, name):
 
 
 def mask():
-    """The bytes that a scrambled frame is changed by, from its seventh on: 1 + x + x^3 + x^12 + x^16, all ones first."""
+    """The bytes that change a scrambled frame, from its seventh on: 1 + x + x^3 + x^12 + x^16, all ones first."""
     bits = [1] * 16
     while len(bits) < 8 * (FRAME - 6):
         bits.append(bits[-1] ^ bits[-3] ^ bits[-12] ^ bits[-16])

@@ -1,4 +1,4 @@
-"""What checks/pages does with the page of a network: that of examples/network, one that does not meet, a hostile one."""
+"""What checks/pages does with pages of networks: that of examples/network, one that does not meet, a hostile one."""
 import csv
 import io
 import pathlib
@@ -8,7 +8,7 @@ import tomllib
 
 import page_lines
 import page_use
-from page_use import click, press, search, text
+from page_use import beside, click, press, says, search, text
 
 HERE = pathlib.Path(__file__).resolve().parent
 SEE, EXAMPLE = HERE.parent / 'see', HERE.parent / 'examples/network'
@@ -62,10 +62,10 @@ def tables(tell, folder, plans, fibres, page):
     for r in rows:
         got.setdefault((r['from node'], r['line out'], r['to node'], r['line in']), {})[int(r['slot'])] = r['customer']
     tell(f'{len(want)} fibres as CSV', got == want)
-    cells = page.run('[...document.querySelectorAll("#fibres [data-place]")].map(b => [b.dataset.place, b.textContent])')
-    keys = list(want)
-    tell(f'{len(cells)} slots on the screen',
-         all((name if name != 'free' else '') == want[keys[int(p.split('.')[0])]][int(p.split('.')[1])] for p, name in cells))
+    cells = page.run('''[...document.querySelectorAll("#fibres [data-place]")]
+        .map(b => [...b.dataset.place.split('.').map(Number), b.textContent])''')
+    rows = list(want.values())
+    tell(f'{len(cells)} slots on the screen', all(name == (rows[x][k] or 'free') for x, k, name in cells))
     loads = page.run('[...document.querySelectorAll("#map .load")].map(t => t.textContent)')
     tell('the loads in the map', loads == [f'{sum(map(bool, row.values()))}/{len(row)}' for row in want.values()])
     ways = list(csv.DictReader(io.StringIO(page.run('otn.customersCsv()'))))
@@ -84,22 +84,26 @@ def use(tell, page):
     base = page.run('otn.chosen.base')
     tell('a click on a customer', text(page, '#chosen h2') == base)
     lit = page.run('document.querySelectorAll("#map .fibre.mine").length')
-    tell('its fibres in the map', lit == page.run(f'otn.net.fibres.filter(f => otn.slotsOn(f, {base!r}).length).length') > 0)
+    own = page.run(f'otn.net.fibres.filter(f => otn.slotsOn(f, {base!r}).length).length')
+    tell('its fibres in the map', lit == own > 0)
     press(page, 'Escape')
     tell('key Escape', page.run('otn.chosen.kind') is None)
     page.run('document.querySelector("#map .hit").focus()')
     press(page, 'Enter')
-    tell('a fibre in the map by keys', page.run('otn.chosen.kind') == 'fibre' and 'of 8 slots taken' in text(page, '#chosen'))
+    kind = page.run('otn.chosen.kind')
+    tell('a fibre in the map by keys', kind == 'fibre' and says(page, '#chosen', 'of 8 slots taken'))
     page.run('document.querySelector(\'[data-place="0.1"]\').focus()')
     press(page, 'ArrowRight')
     press(page, 'ArrowDown')
     tell('from slot to slot by keys', page.run('document.activeElement.dataset.place') == '1.2')
-    tell('search: a customer', search(page, 'campus') == '1 of 2: customer campus' and page.run('otn.chosen.base') == 'campus')
-    tell('search: a node', search(page, 'w4-west') == '1 of 1: site w4' and 'Nodes: w4-east, w4-west' in text(page, '#chosen'))
+    said = search(page, 'campus')
+    tell('search: a customer', said == '1 of 2: customer campus' and page.run('otn.chosen.base') == 'campus')
+    said = search(page, 'w4-west')
+    tell('search: a node', said == '1 of 1: site w4' and says(page, '#chosen', 'Nodes: w4-east, w4-west'))
     tell('search: nothing', search(page, 'nobody').startswith('nothing has'))
     for width in (1280, 900):
         page.size(width, 900)
-        tell(f'network, {width} columns: nothing beside the page', page.run('document.documentElement.scrollWidth <= innerWidth'))
+        tell(f'network, {width} columns: nothing beside the page', not beside(page))
     page.size(1280, 900)
 
 
@@ -117,8 +121,10 @@ def map_of(tell, folder, window, words, page):
     placed = other.run('otn.net.sites.filter(s => s.name === "w1" || s.name === "w2").map(s => [s.x, s.y])')
     tell('places by hand', placed == [[0, 0], [3, -.505]])
     other.close()
-    refused = subprocess.run([SEE / 'otn-network', *words, '--page', '--at', 'w9=1,2'], cwd=folder, capture_output=True, text=True)
-    tell('a place of no site', (refused.returncode, refused.stderr) == (1, 'w9=1,2: no place of a site, as c1=100,200\n'))
+    refused = subprocess.run([SEE / 'otn-network', *words, '--page', '--at', 'w9=1,2'], cwd=folder,
+                             capture_output=True, text=True)
+    complaint = 'w9=1,2: no place of a site, as c1=100,200\n'
+    tell('a place of no site', (refused.returncode, refused.stderr) == (1, complaint))
 
 
 def unmet(tell, folder, window, words):
@@ -132,8 +138,8 @@ def unmet(tell, folder, window, words):
     page.wait('Boolean(window.otn)')
     page_use.pictures('unmet', page)
     tell('a network that does not meet: the answer', status == 1)
-    told = text(page, '#trouble')
-    tell('what does not meet, with the reason', 'no connection of w3-east takes it' in told and 'w2-east never puts port 1' in told)
+    reasons = 'no connection of w3-east takes it', 'w2-east never puts port 1'
+    tell('what does not meet, with the reason', says(page, '#trouble', *reasons))
     tell('the slots that do not meet', page.run('document.querySelectorAll("#fibres .unmet").length') == 2)
     tell('the customer that does not meet', 'no connection of w3-east takes it' in text(page, '#chosen'))
     tell('unmet: nothing on the console', not page.faults and not page.dialogs)
@@ -151,7 +157,7 @@ def hostile(tell, folder, window):
     page.wait('Boolean(window.otn)')
     page.run('otn.choose({kind: "customer", base: otn.net.customers[0].base}); otn.choose({kind: "fibre", fibre: 0})')
     page_use.harmless(tell, 'hostile network', page)
-    tell('hostile network: names as text', all(w in text(page, 'body') for w in (page_lines.EVIL, page_lines.END, node)))
+    tell('hostile network: names as text', says(page, 'body', page_lines.EVIL, page_lines.END, node))
     tell('a formula in CSV', ",'=1+1," in page.run('otn.fibresCsv()'))
     tell('hostile network: nothing on the console', not page.faults and not page.dialogs)
     page.close()

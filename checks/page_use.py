@@ -3,8 +3,10 @@ import os
 import pathlib
 import tempfile
 
-KEYS = {'ArrowRight': 39, 'ArrowLeft': 37, 'ArrowDown': 40, 'ArrowUp': 38, 'Enter': 13, 'Escape': 27, 'Home': 36, 'End': 35,
-        'PageDown': 34, 'PageUp': 33, 'Tab': 9}
+KEYS = {'ArrowRight': 39, 'ArrowLeft': 37, 'ArrowDown': 40, 'ArrowUp': 38, 'Enter': 13, 'Escape': 27, 'Home': 36,
+        'End': 35, 'PageDown': 34, 'PageUp': 33}
+OTHERS = 'img, iframe, object, embed, b[id], link, base, [onerror], [onclick]'
+CUSTOMER = 'otn.line.tributaries[otn.state.tributary].name'
 TEXTS = {'Enter': '\r'}
 
 
@@ -39,7 +41,7 @@ def harmless(tell, name, page):
     """Nothing ran, and no element is there but those of the page."""
     tell(f'{name}: nothing ran', page.run('typeof hacked === "undefined"') and not page.dialogs)
     own = page.run('document.scripts.length')
-    other = page.run('document.querySelectorAll("img, iframe, object, embed, b[id], link, base, [onerror], [onclick]").length')
+    other = page.run(f'document.querySelectorAll("{OTHERS}").length')
     tell(f'{name}: no element of it', own == 2 and other == 0)
 
 
@@ -57,6 +59,22 @@ def click(page, selector):
 
 def text(page, selector):
     return page.run(f'document.querySelector({selector!r}).textContent')
+
+
+def says(page, selector, *words):
+    """Whether all these words are in the text of an element."""
+    return all(word in text(page, selector) for word in words)
+
+
+def beside(page):
+    """Whether the page is wider than its window."""
+    return page.run('document.documentElement.scrollWidth > innerWidth')
+
+
+def put(page, selector, value):
+    """Puts a value into a field, as a hand does."""
+    page.run(f'''(field => {{ field.value = {value}; field.dispatchEvent(new Event('input')); }})
+        (document.querySelector({selector!r}))''')
 
 
 def search(page, words):
@@ -95,8 +113,9 @@ def line_page(tell, window, path):
 def by_keys(tell, page):
     page.run('document.activeElement.blur()')
     turns = page.run('otn.line.turns')
-    for key, was, then in (('ArrowRight', 4, 5), ('ArrowLeft', 4, 3), ('PageDown', 4, 14), ('PageUp', 14, 4), ('Home', 9, 0),
-                           ('End', 9, turns - 1), ('ArrowLeft', 0, 0), ('ArrowRight', turns - 1, turns - 1)):
+    for key, was, then in (('ArrowRight', 4, 5), ('ArrowLeft', 4, 3), ('PageDown', 4, 14), ('PageUp', 14, 4),
+                           ('Home', 9, 0), ('End', 9, turns - 1), ('ArrowLeft', 0, 0),
+                           ('ArrowRight', turns - 1, turns - 1)):
         page.run(f'otn.goTurn({was})')
         press(page, key)
         tell(f'key {key} in turn {was}', state(page, 'turn') == then)
@@ -146,7 +165,7 @@ def by_mouse(tell, page):
     tell('an edge of the window moves', 14 < page.run('otn.state.to') < 17)
     press(page, '0')
     page.click(first + 2.5 * wide, top + 126)
-    tell('a click on a slot chooses its customer', page.run('otn.line.tributaries[otn.state.tributary].name') == 'north')
+    tell('a click on a slot chooses its customer', page.run(CUSTOMER) == 'north')
     for button, then in (('#turn-next', 3), ('#turn-before', 2)):
         click(page, button)
         tell(f'button {button}', state(page, 'turn') == then)
@@ -160,18 +179,18 @@ def by_mouse(tell, page):
 
 
 def by_search(tell, page):
-    tell('search: a turn', search(page, 'turn 33') == 'the line has turns 1 to 31' and search(page, 'turn 20') == 'turn 20'
-         and state(page, 'turn') == 19)
+    tell('search: no such turn', search(page, 'turn 33') == 'the line has turns 1 to 31')
+    tell('search: a turn', search(page, 'turn 20') == 'turn 20' and state(page, 'turn') == 19)
     tell('search: a frame', search(page, 'frame 100') == 'frame 100' and state(page, 'frame') == 100)
     search(page, 'MFAS 173')
     tell('search: an MFAS', page.run('otn.overhead(otn.state.frame, 1, 7)') == 173)
     tell('search: an MFAS in hex', search(page, 'mfas 0xAD').startswith('MFAS 173'))
     tell('search: a customer', search(page, 'office').startswith('1 of ') and state(page, 'tab') == 'customers'
-         and page.run('otn.line.tributaries[otn.state.tributary].name') == 'office')
+         and page.run(CUSTOMER) == 'office')
     address = page.run('(() => { const p = otn.packetBytes(9); return Array.from(p.subarray(6, 12), '
                        'b => b.toString(16).padStart(2, "0")).join(":"); })()')
-    said = search(page, address)
-    tell('search: an address', said == f'1 of 1: packet of turn {page.run("otn.line.packets.turn[9]")}' and state(page, 'packet') == 9)
+    said, turn = search(page, address), page.run('otn.line.packets.turn[9]')
+    tell('search: an address', said == f'1 of 1: packet of turn {turn}' and state(page, 'packet') == 9)
     tell('the packet is shown', address in text(page, '#packet') and '0000  ' in text(page, '#packet pre'))
     tell('search: words of an event', 'event of turn 13' in search(page, 'multiframe lost'))
     tell('search: the next one', search(page, 'multiframe lost').startswith('2 of 2: event of turn 2'))
@@ -196,10 +215,11 @@ def tabs(tell, page):
     click(page, '#tab-packets')
     page.run('otn.goTurn(3)')
     click(page, '#packets tbody tr.now')
-    tell('a click on a packet', page.run('otn.line.packets.turn[otn.state.packet]') == 4 and text(page, '#packet pre').startswith('0000'))
+    turn = page.run('otn.line.packets.turn[otn.state.packet]')
+    tell('a click on a packet', turn == 4 and text(page, '#packet pre').startswith('0000'))
     click(page, '#only')
-    turns = page.run('[...new Set([...document.querySelectorAll("#packets tbody tr")].map(r => r.firstChild.textContent))]')
-    tell('the packets of this turn only', turns == ['4'])
+    turns = page.run('[...document.querySelectorAll("#packets tbody tr")].map(row => row.firstChild.textContent)')
+    tell('the packets of this turn only', set(turns) == {'4'})
     click(page, '#only')
 
 
@@ -224,27 +244,31 @@ def groups(tell, page):
         tell(f'the groups by Cm {cm}', data == want and sum(data) == cm)
     click(page, '#tab-gmp')
     page.run('otn.goTurn(5)')
-    tell('the groups of the turn', '15,232 groups' in text(page, '#gmp-sum') and 'of the turn before' in text(page, '#gmp-sum'))
-    page.run('(() => { const s = document.querySelector("#what-slider"); s.value = 7616; s.dispatchEvent(new Event("input")); })()')
-    tell('the slider', 'Cm 7616' in text(page, '#gmp-sum') and 'what if' in text(page, '#gmp-sum'))
-    page.run('(() => { const s = document.querySelector("#group"); s.value = 2; s.dispatchEvent(new Event("input")); })()')
-    tell('a group explained', 'Group 2: frame 0' in text(page, '#group-words') and '= 0 < 7616: data' in text(page, '#group-words'))
+    tell('the groups of the turn', says(page, '#gmp-sum', '15,232 groups', 'of the turn before'))
+    put(page, '#what-slider', 7616)
+    tell('the slider', says(page, '#gmp-sum', 'Cm 7616', 'what if', '7,616 data', '7,616 stuff'))
+    put(page, '#group', 2)
+    tell('a group explained', says(page, '#group-words', 'Group 2: frame 0', '= 0 < 7616: data'))
     click(page, '#as-sent')
     tell('as sent', 'what if' not in text(page, '#gmp-sum'))
-    filled = page.run('''(() => { const c = document.querySelector('#groups'), d = c.getContext('2d').getImageData(0, 0, c.width, c.height).data;
-        const seen = new Set(); for (let i = 0; i < d.length; i += 4000) seen.add(d.slice(i, i + 3).join()); return seen.size; })()''')
-    tell('the groups are drawn', filled > 1)
+    colours = page.run('''(canvas => {
+        const {data} = canvas.getContext('2d').getImageData(0, 0, canvas.width, canvas.height), seen = new Set();
+        for (let i = 0; i < data.length; i += 4000) seen.add(data.slice(i, i + 3).join());
+        return seen.size;
+    })(document.querySelector('#groups'))''')
+    tell('the groups are drawn', colours > 1)
 
 
 def proved(tell, page):
     """What is left where only proved numbers are shown."""
     click(page, '#proved')
     page.run('otn.state.tab = "customers"; otn.goTurn(5)')
-    seen = page.run('''[...document.querySelectorAll('main *, header *')].filter(e => e.children.length === 0 && e.checkVisibility())
-        .map(e => e.textContent).join(' ')''')
-    hidden = [w for w in ('BIP-8 of', 'JC1', 'packet', 'LCK', 'MFAS wrong', 'damaged', 'should be', 'trace', '“LINE-0”') if w in seen]
-    tell(f'proved numbers only: {hidden} hidden', not hidden)
-    tell('proved numbers only: Cm stays', 'Cm 15168' in text(page, '#customers') or 'Cm 1516' in text(page, '#customers'))
+    seen = page.run('''[...document.querySelectorAll('main *, header *')]
+        .filter(e => e.children.length === 0 && e.checkVisibility()).map(e => e.textContent).join(' ')''')
+    unproved = 'BIP-8 of', 'JC1', 'packet', 'LCK', 'MFAS wrong', 'damaged', 'should be', 'trace', '“LINE-0”'
+    left = [word for word in unproved if word in seen]
+    tell(f'proved numbers only: {left} left', not left)
+    tell('proved numbers only: Cm stays', says(page, '#customers', 'Cm 1516') and says(page, '#sinks', 'campus'))
     click(page, '#proved')
     tell('all numbers again', page.run('document.querySelector("#frames").checkVisibility()'))
 
@@ -267,7 +291,8 @@ def print_and_narrow(tell, page):
     for width in (1280, 1000, 700):
         page.size(width, 900)
         page.run('new Promise(done => requestAnimationFrame(() => setTimeout(done, 100)))')
-        tell(f'{width} columns: nothing beside the page', page.run('document.documentElement.scrollWidth <= innerWidth'))
-        for list_ in ('#frames', '#overhead', '#events') if width == 1280 else ():
-            tell(f'{list_} is not cut off', page.run(f'(e => e.scrollWidth <= e.clientWidth + 1)(document.querySelector("{list_}").parentElement)'))
+        tell(f'{width} columns: nothing beside the page', not beside(page))
+        for table in ('#frames', '#overhead', '#events') if width == 1280 else ():
+            cut = page.run(f'(e => e.scrollWidth > e.clientWidth + 1)(document.querySelector("{table}").parentElement)')
+            tell(f'{table} is not cut off', not cut)
     page.size(1280, 900)

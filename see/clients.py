@@ -1,4 +1,4 @@
-"""What clients send in the bytes that a sink emits: client frames, their status and trace, and the GFP frames in them."""
+"""What clients send in the bytes that a sink emits: client frames, their status and trace, and the GFP frames."""
 import re
 from functools import lru_cache
 

@@ -117,7 +117,7 @@ def data_groups(groups, c, m):
 # --------------------------------------------------------------- a file
 
 class Frames:
-    """The frames of a line file. The file is looked into where a frame is asked for, so that a long line takes no memory."""
+    """The frames of a line file. It is looked into where a frame is asked for, so that a long line takes no memory."""
 
     def __init__(self, path):
         with open(path, 'rb') as file:

@@ -15,9 +15,9 @@ HOWS = [None, 'outright', '=', '+1', '-1', '+2', '-2']
 MOST_EVENTS = 20000
 
 STYLES = ['base.css', 'line.css']
-SCRIPTS = ['base.js', 'unpack.js', 'model.js', 'message.js', 'state.js', 'lanes.js', 'slots.js', 'pointer.js', 'turn.js',
-           'frame.js', 'tabs.js', 'decode.js', 'packets.js', 'events.js', 'gmp.js', 'groups.js', 'customers.js',
-           'turns.js', 'find.js', 'head.js', 'keys.js', 'line.js']
+SCRIPTS = ['base.js', 'unpack.js', 'model.js', 'message.js', 'state.js', 'lanes.js', 'slots.js', 'pointer.js',
+           'turn.js', 'frame.js', 'tabs.js', 'decode.js', 'packets.js', 'events.js', 'gmp.js', 'groups.js',
+           'customers.js', 'turns.js', 'find.js', 'head.js', 'keys.js', 'line.js']
 
 
 def column(kind, values):

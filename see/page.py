@@ -1,7 +1,7 @@
 """One web page from files of page/ and some data: it needs no other file, no server and no network.
 
 Data come as JSON (`about`) and as named bytes (`parts`), which the page has compressed. Texts of lines and plans stand
-in the JSON alone, where no letter ends a script, and the page shows them as text. Its policy runs no script but its own.
+in the JSON alone, where no letter ends a script, and the page shows them as text. Its policy runs its own script alone.
 """
 import base64
 import hashlib

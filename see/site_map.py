@@ -1,6 +1,6 @@
-"""Where the sites of a network stand in its map: sites that fibres join stand at a like distance, so that a ring of sites
-is a ring. The map is made by stress majorization: distances in the map come near to the fibres of a shortest way, near
-ones before far ones.
+"""Where the sites of a network stand in its map: sites that fibres join stand at a like distance, so that a ring of
+sites is a ring. The map is made by stress majorization: distances in the map come near to the fibres of a shortest
+way, near ones before far ones.
 
 One is the length of a fibre; x goes to the right, y down.
 """
@@ -80,7 +80,7 @@ def turned(place):
     n = len(place)
     mx, my = (sum(p[i] for p in place.values()) / n for i in (0, 1))
     points = {s: (x - mx, y - my) for s, (x, y) in place.items()}
-    xx, yy, xy = (sum(f(*p) for p in points.values()) for f in (lambda x, y: x * x, lambda x, y: y * y, lambda x, y: x * y))
+    xx, yy, xy = (sum(p[i] * p[j] for p in points.values()) for i, j in ((0, 0), (1, 1), (0, 1)))
     spread = math.hypot(xx - yy, 2 * xy)
     first = next(iter(points.values()))
     long = xx + yy + spread > NEAR ** 2 * (xx + yy - spread)
@@ -91,7 +91,9 @@ def turned(place):
         points = {site: (-x, -y) for site, (x, y) in points.items()}
     ring = list(points.values())
     way = sum(a[0] * b[1] - a[1] * b[0] for a, b in zip(ring, ring[1:]))
-    return {site: (-x, y) if way < 0 and not long else (x, -y) if way < 0 else (x, y) for site, (x, y) in points.items()}
+    if way >= 0:
+        return points
+    return {site: (x, -y) if long else (-x, y) for site, (x, y) in points.items()}
 
 
 def places(sites, joins, fixed=None):
