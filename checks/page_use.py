@@ -152,7 +152,7 @@ def by_mouse(tell, page):
     page.click(first + 8.5 * wide, top + 120)
     tell('a click on the ninth turn', state(page, 'turn') == 8)
     page.mouse('mouseMoved', first + 12.5 * wide, top + 120)
-    tell('the tip tells the turn', text(page, '#tip').startswith('turn 13: multiframe lost'))
+    tell('the tip tells the turn', text(page, '#tip').startswith('turn 13: lost multiframe'))
     page.mouse('mouseWheel', first + 8.5 * wide, top + 120, deltaX=0, deltaY=-100)
     tell('the wheel zooms', page.run('otn.state.to - otn.state.from') < page.run('otn.line.turns'))
     was = page.run('otn.state.from')
@@ -192,9 +192,9 @@ def by_search(tell, page):
     said, turn = search(page, address), page.run('otn.line.packets.turn[9]')
     tell('search: an address', said == f'1 of 1: packet of turn {turn}' and state(page, 'packet') == 9)
     tell('the packet is shown', address in text(page, '#packet') and '0000  ' in text(page, '#packet pre'))
-    tell('search: words of an event', 'event of turn 13' in search(page, 'multiframe lost'))
-    tell('search: the next one', search(page, 'multiframe lost').startswith('2 of 2: event of turn 2'))
-    tell('search: and the first one again', search(page, 'multiframe lost').startswith('1 of 2'))
+    tell('search: words of an event', 'event of turn 13' in search(page, 'lost multiframe'))
+    tell('search: the next one', search(page, 'lost multiframe').startswith('2 of 2: event of turn 2'))
+    tell('search: and the first one again', search(page, 'lost multiframe').startswith('1 of 2'))
     tell('search: nothing', search(page, 'no such words').startswith('nothing has') and search(page, '') == '')
 
 

@@ -143,6 +143,6 @@ function heardWords(h) {
   if (h.cm !== null) words.push(`Cm ${h.cm}${state.proved ? '' : ` (${HOW[h.how] || 'kept'})`}`, `CnD ${h.cnd}`);
   words.push(`${grouped(h.emitted)} bytes`);
   if (!state.proved && h.packets) words.push(count(h.packets, 'packet'));
-  if (!state.proved && h.bad) words.push(`${h.bad} bad`);
+  if (!state.proved && h.bad) words.push(`${h.bad} GFP frames bad`);
   return words.join(', ') + (!state.proved && h.why ? `: ${h.why}` : '');
 }
