@@ -15,7 +15,7 @@ import subprocess
 import tempfile
 import time
 
-SECONDS = 60                                          # that a call may take
+SECONDS = 300                                         # that a call may take, also where a machine has much to do
 SWITCHES = ['--headless=new', '--no-sandbox', '--disable-gpu', '--remote-debugging-pipe', '--no-first-run',
             '--disable-background-networking', '--disable-component-update', '--hide-scrollbars', '--mute-audio']
 
