@@ -1,5 +1,5 @@
--- API: what an answer says of a report's count of faults: it rose or stands at its end where a write was lost, and else it
--- is as it was.
+-- API: what an answer says of a report's count of faults: it rose or stands at its end where a write was lost, and
+-- else it is as it was.
 use Rattle.std.specs.Prelude.{◌≡◌, ◌≤◌, ℕ, Result, Ok, Err}
 use Rattle.otn_base.specs.declared.memory.Memory.{Memory as NoMemory}
 use Rattle.port_base.specs.Bytes.{HasFailed}

@@ -12,9 +12,9 @@ const ROOM: usize = 1024;
 
 const LF: u8 = b'\n';
 
-/// Takes the text of a view, and writes the events that its lines bring to another sink. It tells no bytes. A write takes
-/// the bytes up to and with the first LF. It fails where the sink below does in that, and where there is no memory for
-/// a tributary, or a line has more than 1,024 bytes: then its own count rises.
+/// Takes the text of a view, and writes the events that its lines bring to another sink. It tells no bytes. A write
+/// takes the bytes up to and with the first LF. It fails where the sink below does in that, and where there is no
+/// memory for a tributary, or a line has more than 1,024 bytes: then its own count rises.
 #[derive(Drop)]
 pub struct EventSink<K> {
     inner: K,

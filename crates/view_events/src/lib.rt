@@ -1,5 +1,5 @@
-//! What changes between two turns of a view: a sink that takes the lines of a view, and writes a line for each change to
-//! another sink.
+//! What changes between two turns of a view: a sink that takes the lines of a view, and writes a line for each change
+//! to another sink.
 //!
 //! - `event_sink`: the sink.
 //! - `events`: what is known of a line and of what is on it, line by line of the view.

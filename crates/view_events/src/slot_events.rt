@@ -35,8 +35,8 @@ impl SlotEvents {
         }
     }
 
-    /// Takes the line of an MSI byte of this turn, notes it, and writes it where it is the slot's first, or another than
-    /// its last.
+    /// Takes the line of an MSI byte of this turn, notes it, and writes it where it is the slot's first, or another
+    /// than its last.
     pub(crate) fn take_msi<K: Sink>(
         &mut self,
         turn: u64,
