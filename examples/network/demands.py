@@ -20,7 +20,7 @@ COLUMNS = 'name, site, site, kind, packets'
 def faults_of(words, sites, names):
     """What is wrong with the words of a line."""
     if len(words) != 5:
-        yield f'it has {len(words)} words, and not five: {COLUMNS}'
+        yield f'it has {len(words)} word{"s" * (len(words) > 1)}, and not five: {COLUMNS}'
         return
     name, a, b, kind, count = words
     if not NAME.fullmatch(name):
@@ -56,7 +56,7 @@ def read(path, sites):
     """The demands of a file, each a name, two sites, a kind and how many packets. Ends where a line is wrong."""
     wrong = []
     try:
-        with open(path) as file:
+        with open(path, errors='replace') as file:
             found = list(lines_of(file, sites, wrong))
     except OSError as error:
         sys.exit(f'{path}: {error.strerror}')
