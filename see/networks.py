@@ -35,10 +35,11 @@ def end_words(end):
 
 
 class Network:
-    """Plans by node, fibres, connections, and `chains`: the connections of each customer, in order."""
+    """Plans by node, fibres, connections, and `chains`: the connections of each customer, in order. `folders` says where
+    the files of a node are."""
 
-    def __init__(self, plans, fibres):
-        self.plans, self.fibres = plans, fibres
+    def __init__(self, plans, fibres, folders=None, path=''):
+        self.plans, self.fibres, self.folders, self.path = plans, fibres, folders or {}, path
         self.all = [Connection(n, c, plan['turns']) for n, plan in plans.items() for c in plan.get('connection', [])]
         self.join()
         self.chains = []
@@ -49,6 +50,15 @@ class Network:
                 chain.append(head)
                 head = head.next
             self.chains.append(chain)
+
+    def file(self, node, name):
+        """Where a file of a node is."""
+        return os.path.join(self.folders[node], name)
+
+    def text(self, node):
+        """The text of a node's plan."""
+        with open(self.file(node, 'plan.toml'), 'rb') as file:
+            return file.read()
 
     def join(self):
         ahead = {(a, m): (b, n) for a, m, b, n in self.fibres}
@@ -106,16 +116,45 @@ def read_plan(path):
         sys.exit(f'{path}: no plan, see `otn check`')
 
 
+def read_folder(path):
+    """A network from the file network.toml or its folder; or one node, from the folder of its plan.toml.
+
+    The file has a [[node]] for each node, with `name` and, where it is not the name, `folder`; and a [[fibre]] for each
+    fibre, with `from` and `to`, each { node = NAME, line = N }.
+    """
+    file = path if os.path.isfile(path) else os.path.join(path, 'network.toml')
+    if not os.path.exists(file) and os.path.exists(os.path.join(path, 'plan.toml')):
+        name = os.path.basename(os.path.abspath(path))
+        return Network({name: read_plan(os.path.join(path, 'plan.toml'))}, [], {name: path}, path)
+    top = os.path.dirname(file)
+    try:
+        with open(file, 'rb') as opened:
+            table = tomllib.load(opened)
+        folders = {node['name']: os.path.join(top, node.get('folder', node['name'])) for node in table['node']}
+        ends = [(f['from']['node'], f['from']['line'], f['to']['node'], f['to']['line']) for f in table.get('fibre', [])]
+    except OSError as fault:
+        sys.exit(f'{file}: {fault.strerror}')
+    except (tomllib.TOMLDecodeError, UnicodeDecodeError, KeyError, TypeError, AttributeError):
+        sys.exit(f'{file}: no network, see docs/NETWORKS.md')
+    for a, _, b, _ in ends:
+        for name in (a, b):
+            if name not in folders:
+                sys.exit(f'{file}: a fibre has an end at {name}, which is no node')
+    return Network({name: read_plan(os.path.join(it, 'plan.toml')) for name, it in folders.items()}, ends, folders, file)
+
+
 def read_words(plans, fibres):
     """A network from words: NAME=plan.toml, or a path whose folder is the name; A:0=B:0 for a fibre."""
-    out = {}
+    out, folders = {}, {}
     for word in plans:
         name, _, path = word.rpartition('=')
-        out[name or os.path.basename(os.path.dirname(os.path.abspath(path)))] = read_plan(path)
+        folder = os.path.dirname(os.path.abspath(path))
+        folders[name or os.path.basename(folder)] = folder
+        out[name or os.path.basename(folder)] = read_plan(path)
     ends = []
     for word in fibres:
         found = re.fullmatch(r'(.+):(\d)=(.+):(\d)', word)
         if not found or found[1] not in out or found[3] not in out:
             sys.exit(f'{word}: no fibre between two of the nodes, as A:0=B:0')
         ends.append((found[1], int(found[2]), found[3], int(found[4])))
-    return Network(out, ends)
+    return Network(out, ends, folders)

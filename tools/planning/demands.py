@@ -7,7 +7,7 @@
 4: the kind odu1 is neither odu0 nor flex and how many slots, 1 to 32, as flex-3
 4: x is no number of packets
 
-`python3 demands.py` tries these examples.
+`python3 -m planning.demands`, in the folder tools/, tries these examples.
 """
 import re
 import sys
