@@ -52,18 +52,27 @@ ran_of plan reply old new asked now answers carries is_plan = record {
   of_text = refl;
 }
 
-pub of_a_plan : (reply : Status) (old new : Device) (asked now : ℕ) → RunAnswers old new asked now reply → CarriesPlan reply
-    → (plan : Plan) × (ran : Ran (record { plan = plan; before = old.bays; after = new.bays })) × (ran.old ≡ old) × (ran.new ≡ new)
+pub of_a_plan : (reply : Status) (old new : Device) (asked now : ℕ) → (answers : RunAnswers old new asked now reply) → CarriesPlan reply
+    → (plan : Plan) × (ran : Ran (record { plan = plan; before = old.bays; after = new.bays })) × (ran.old ≡ old) × (ran.new ≡ new) × (ran.text ≡ answers.text)
 of_a_plan reply old new asked now answers carries =
     let r = run_carries reply old new asked now answers carries in
-    (r.0, ran_of r.0 reply old new asked now answers carries r.2, refl, refl)
+    (r.0, ran_of r.0 reply old new asked now answers carries r.2, refl, refl, refl)
+
+-- the text for which it answers is the one that was read
+one_text : (run : Run) (r : Ran run) → r.answers.text ≡ r.text
+one_text run r = cc
+
+-- so the plan that this means is the one that it carried
+pub carried_it : (run : Run) (r : Ran run) → PlanRan run.plan r.old r.new r.asked r.asked_now r.reply
+carried_it run r =
+    let p = run_carries r.reply r.old r.new r.asked r.asked_now r.answers r.carries in
+    let same : p.0 ≡ run.plan = same_answer (plan_of_text r.answers.text) p.0 run.plan p.2 (ap plan_of_text (one_text run r) ∙ r.is_plan) in
+    subst (λ plan. PlanRan plan r.old r.new r.asked r.asked_now r.reply) same p.1
 
 -- what it left
 pub left_by : (run : Run) (r : Ran run) → IsRun run
 left_by run r =
-    let p = run_carries r.reply r.old r.new r.asked r.asked_now r.answers r.carries in
-    let same : p.0 ≡ run.plan = same_answer (plan_of_text r.answers.text) p.0 run.plan p.2 (ap plan_of_text r.of_text ∙ r.is_plan) in
-    let ran : PlanRan run.plan r.old r.new r.asked r.asked_now r.reply = subst (λ plan. PlanRan plan r.old r.new r.asked r.asked_now r.reply) same p.1 in
+    let ran = carried_it run r in
     record {
       accepted = accepted_plan r.text run.plan r.is_plan;
       takings = ran.takings;

@@ -12,7 +12,7 @@ use Rattle.device_model.specs.RunLeft.{SamePlace}
 use Rattle.run_laws.specs.SeenRuns.{Run, ShareInput, SameOutput, ShareInputUpTo, SameOutputUpTo, PutThrough, CarriesOver}
 use Rattle.command_base.specs.Device.{Device}
 use Rattle.check_command.specs.PlanReading.{IsAll}
-use Rattle.run_command.specs.RunAnswers.{RunAnswers}
+use Rattle.run_command.specs.RunAnswers.{PlanRan, RunAnswers}
 use Rattle.run_command.specs.RunCalls.{CarriesPlan}
 use Rattle.command_base.specs.declared.status.Status.{Status}
 
@@ -38,11 +38,16 @@ pub record Ran (run : Run) : Type 0 where
   pub of_text : answers.text ≡ text
 
 -- Each call of `run` that answered Done, Unfinished, Cut or ReportFault is one, of the plan that the text means that
--- was read of its source.
+-- was read of its source: of the very text for which the call answers, also where the source tells nothing.
 abbrev pub IsOfAPlan : Type 0
-IsOfAPlan = (old new : Device) (asked now : ℕ) (reply : Status) → RunAnswers old new asked now reply → CarriesPlan reply
+IsOfAPlan = (old new : Device) (asked now : ℕ) (reply : Status) → (answers : RunAnswers old new asked now reply)
+    → CarriesPlan reply
     → (plan : Plan) × (ran : Ran (record { plan = plan; before = old.bays; after = new.bays })) × (ran.old ≡ old)
-    × (ran.new ≡ new)
+    × (ran.new ≡ new) × (ran.text ≡ answers.text)
+
+-- Of one plan: the plan that the text means is the one that the call carried, and by which it wrote its report.
+abbrev pub HasCarriedIt : Type 0
+HasCarriedIt = (run : Run) (ran : Ran run) → PlanRan run.plan ran.old ran.new ran.asked ran.asked_now ran.reply
 
 -- Isolated: where two calls share a connection (with its stop and its lines' kinds), and agree on what it comes from,
 -- the same leaves on it as far as both have gone, whatever other connections, slots, ports, bytes, faults and orders

@@ -1,5 +1,6 @@
 // Laws over what `run` answers for.
-ghost use Rattle.run_command.specs.Headline.{IsCarried, IsIsolated, IsOfAPlan, IsThrough, LeavesOthers, LooksNotAhead};
+ghost use Rattle.run_command.specs.Headline.{HasCarriedIt, IsCarried, IsIsolated, IsOfAPlan, IsThrough};
+ghost use Rattle.run_command.specs.Headline.{LeavesOthers, LooksNotAhead};
 ghost use Rattle.run_command.specs.RunCalls.{CallsAreIsolated, CallsCarry, CallsPutThrough, HasRunItsPlan};
 ghost use Rattle.run_command.specs.RunLaws.{RunAnswersForItsText};
 
@@ -9,7 +10,8 @@ pub fn run_of_text()
 {}
 
 /// The headline, by what is seen of the places before and after a call of `run` that carried a plan (`runs`: each that
-/// answered Done, Unfinished, Cut or ReportFault). No connection touches another (`isolated`): where two calls share an
+/// answered Done, Unfinished, Cut or ReportFault). The plan that it carried is the one that the text means that it read
+/// (`plan`). No connection touches another (`isolated`): where two calls share an
 /// entry, and what its own port had to give agrees (a line's whole frames, MFAS bytes and own places; a client's
 /// packets), what its output's port got agrees as far as both have gone, and wholly where its place has lived in both:
 /// a client's text, and on a line its own places, where both lines are scrambled or neither is. No turn looks ahead
@@ -21,6 +23,7 @@ pub fn run_of_text()
 /// (`headline_of_any_inputs` speaks of these too). A place that the plan does not use is as it was (`others`).
 pub fn headline()
     ensures runs { IsOfAPlan }
+    ensures plan { HasCarriedIt }
     ensures isolated { IsIsolated }
     ensures ahead { LooksNotAhead }
     ensures through { IsThrough }

@@ -1,8 +1,11 @@
-use Rattle.run_command.proofs.SeenCalls.{of_a_plan, isolated, not_ahead, is_through, is_carried, leaves_others}
+use Rattle.run_command.proofs.SeenCalls.{of_a_plan, carried_it, isolated, not_ahead, is_through, is_carried, leaves_others}
 use Rattle.run_command.proofs.laws.headline.Goals as goal
 
 pub returns-clause-runs : goal.returns-clause-runs
 returns-clause-runs c = λ old new asked now reply. of_a_plan reply old new asked now
+
+pub returns-clause-plan : goal.returns-clause-plan
+returns-clause-plan c = carried_it
 
 pub returns-clause-isolated : goal.returns-clause-isolated
 returns-clause-isolated c = isolated
