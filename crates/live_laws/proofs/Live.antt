@@ -9,7 +9,7 @@ use Rattle.plan_file.specs.declared.plan.Plan.{Plan}
 use Rattle.node_moments.specs.NodeView.{NodeView}
 use Rattle.node_moments.specs.Stands.{InputBytes, StandsAt, Later}
 use Rattle.live_laws.specs.HandedIn.{grown, LineGrew, ClientGrew}
-use Rattle.live_laws.specs.Live.{holding, with_line, with_client, LiveStands}
+use Rattle.live_laws.specs.Live.{holding, with_line, with_client, NeverFails, LiveStands}
 use Rattle.live_laws.proofs.Grown.{lines_grow}
 use Rattle.live_laws.proofs.GrownText.{packets_grow}
 
@@ -46,8 +46,8 @@ holds n m further places had live e = elim (eqb_tells m n) [
 
 pub live_line : (plan : Plan) (handed : InputBytes) (node : NodeView) (a : ℕ) (further : List ℕ) (now now_with : BaysView) → a < 4
     → (line_in_at now a).ended ≡ false
-    → LineGrew a further now now_with → LiveStands plan handed node now → LiveStands plan (with_line a further handed) node now_with
-live_line plan handed node a further now now_with few unended grew h =
+    → NeverFails now_with → LineGrew a further now now_with → LiveStands plan handed node now → LiveStands plan (with_line a further handed) node now_with
+live_line plan handed node a further now now_with few unended calm grew h =
     let live : (line_in_at h.first a).state ≡ Live = ap (λ (v : InView). v.state) (h.opens.line_in a few) in
     let first : BaysView = record h.first { line_in = more_at a further h.first.line_in } in
     record {
@@ -68,12 +68,13 @@ live_line plan handed node a further now now_with few unended grew h =
             client_out = refl;
           }
           grew h.stands;
+      calm = calm;
     }
 
 pub live_client : (plan : Plan) (handed : InputBytes) (node : NodeView) (n : ℕ) (further : List ℕ) (now now_with : BaysView) → n < 16
     → (client_in_at now n).ended ≡ false
-    → ClientGrew n further now now_with → LiveStands plan handed node now → LiveStands plan (with_client n further handed) node now_with
-live_client plan handed node n further now now_with few unended grew h =
+    → NeverFails now_with → ClientGrew n further now now_with → LiveStands plan handed node now → LiveStands plan (with_client n further handed) node now_with
+live_client plan handed node n further now now_with few unended calm grew h =
     let live : (client_in_at h.first n).state ≡ Live = ap (λ (v : InView). v.state) (h.opens.client_in n few) in
     let first : BaysView = record h.first { client_in = more_at n further h.first.client_in } in
     record {
@@ -94,12 +95,13 @@ live_client plan handed node n further now now_with few unended grew h =
             client_out = refl;
           }
           grew h.stands;
+      calm = calm;
     }
 
 -- a node that has gone on from whatever moment of whatever plan it stood at stands as a live one
 pub live_goes : (old new : NodeView) (was is : BaysView)
     → ((plan : Plan) (first : BaysView) (read : InputBytes) → StandsAt plan first read old was → Later plan first read old new is)
-    → (plan : Plan) (handed : InputBytes) → LiveStands plan handed old was → LiveStands plan handed new is
-live_goes old new was is goes plan handed h =
+    → NeverFails is → (plan : Plan) (handed : InputBytes) → LiveStands plan handed old was → LiveStands plan handed new is
+live_goes old new was is goes calm plan handed h =
     let later = goes plan h.first h.read h.stands in
-    record { first = h.first; opens = h.opens; read = later.more; stands = later.stands }
+    record { first = h.first; opens = h.opens; read = later.more; stands = later.stands; calm = calm }

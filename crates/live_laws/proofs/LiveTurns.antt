@@ -159,12 +159,12 @@ client_out plan first read node now inputs i n x link h may at has to start o is
 -- ---- all
 
 pub live_turns : LiveTurns
-live_turns plan handed node now h none is served =
+live_turns plan handed node now h served =
     let inputs = inputs_of plan handed in
-    let may : MayGive plan h.read node inputs = handed_may_give plan handed node now h none in
+    let may : MayGive plan h.read node inputs = handed_may_give plan handed node now h in
     let p = h.stands.plan_stands in
     record {
-      line = λ b used.
+      line = λ is b used.
           let few = line_within b (used_within plan (port.LineOut b) p.accepted used) in
           let line = element_at node.lines_out b (let four = is.lines_out in omega arith) in
           let o = is_out plan h.first h.read node now (port.LineOut b) h.stands (served.line_out b few) used in

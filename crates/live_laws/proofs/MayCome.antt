@@ -39,7 +39,7 @@ no_fault : (faults : ℕ) → faults ≡ 0 → HasFailed 0 faults → ⊥
 no_fault faults none (inl more) = omega arith
 no_fault faults none (inr most) = omega arith
 
-still_live : (state : State) (faults : ℕ) → Lives Live state 0 faults → faults ≡ 0 → state ≡ Live
+pub still_live : (state : State) (faults : ℕ) → Lives Live state 0 faults → faults ≡ 0 → state ≡ Live
 still_live state faults (inl (same, faulted)) none = same
 still_live state faults (inr (live, died, failed)) none = absurd (no_fault faults none failed)
 
@@ -73,7 +73,7 @@ kept_state Live was now e is none h = e
 kept_state Empty was now e is none h = still_live was.state was.faults h (ap (λ (v : InView). v.faults) (sym is) ∙ none)
 kept_state Dead was now e is none h = still_live was.state was.faults h (ap (λ (v : InView). v.faults) (sym is) ∙ none)
 
-was_live : (retired : Bool) (was now : InView) → now ≡ after_retire retired was → now.faults ≡ 0 → Lives Live was.state 0 was.faults → was.state ≡ Live
+pub was_live : (retired : Bool) (was now : InView) → now ≡ after_retire retired was → now.faults ≡ 0 → Lives Live was.state 0 was.faults → was.state ≡ Live
 was_live false was now is none h = still_live was.state was.faults h (ap (λ (v : InView). v.faults) (sym is) ∙ none)
 was_live true was now is none h = kept_state was.state was now refl is none h
 
@@ -114,13 +114,13 @@ client_within n h = grind (arith, nat_tests)
 -- ---- all
 
 pub handed_may_give : HandedMayGive
-handed_may_give plan handed node now h none = record {
+handed_may_give plan handed node now h = record {
   lines = λ a line has used.
       let p = h.stands.plan_stands in
       let few = line_within a (used_within plan (port.LineIn a) p.accepted used) in
       let stood = h.stands.ports (port.LineIn a) line has used in
       line_may (form_in plan a) (line_in_at h.first a) (line_in_at now a) (h.read.line a) (handed.line a) node.past line (h.opens.line_in a few)
-      (none.line_in a) stood.0;
+      (h.calm.line_in a) stood.0;
   clients = λ i n x link at has from start.
       let p = h.stands.plan_stands in
       let used = uses_at plan (port.ClientIn n) i x at (touched_in n x from) in
@@ -129,5 +129,5 @@ handed_may_give plan handed node now h none = record {
       let k : ℕ = turns_done x node.past (done_at node (port.ClientIn n)) in
       let lives = lives_of x (client_in_at h.first n) c.was (h.read.client n) k link.pipe.taking (handed.client n) (h.opens.client_in n few) c.stands in
       text_may x (client_in_at h.first n) c.was (h.read.client n) (handed.client n) k link.pipe.taking (h.opens.client_in n few)
-      (was_live (is_retired x node.past) c.was (client_in_at now n) c.place (none.client_in n) lives) c.stands;
+      (was_live (is_retired x node.past) c.was (client_in_at now n) c.place (h.calm.client_in n) lives) c.stands;
 }

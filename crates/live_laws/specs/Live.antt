@@ -39,14 +39,20 @@ with_client n further handed = record {
 
 -- ---- where it stands
 
+-- no input has failed: bytes in memory can be read
+pub record NeverFails (now : BaysView) : Type 0 where
+  pub line_in : (a : ℕ) → (line_in_at now a).faults ≡ 0
+  pub client_in : (n : ℕ) → (client_in_at now n).faults ≡ 0
+
 -- The node and its places stand at a moment of the plan as they would if all that was handed in by now had been there
--- from the first. Which moment it is, the node says. So all that is said of a node at a moment is said of this one, for
--- whatever is handed in later.
+-- from the first, and no input has failed. Which moment it is, the node says. So all that is said of a node at a moment
+-- is said of this one, for whatever is handed in later.
 pub record LiveStands (plan : Plan) (handed : InputBytes) (node : NodeView) (now : BaysView) : Type 0 where
   pub first : BaysView
   pub opens : OpensWith handed first
   pub read : InputBytes
   pub stands : StandsAt plan first read node now
+  pub calm : NeverFails now
 
 -- no output has a piece left in the turn that goes
 pub record AreServed (node : NodeView) : Type 0 where
@@ -61,3 +67,4 @@ pub record LeavesAsRun (plan : Plan) (handed : InputBytes) (last : BaysView) (nu
   pub opens : OpensWith handed first
   pub takings : Takings
   pub left : RunLeft plan first last takings numbers
+  pub calm : NeverFails last

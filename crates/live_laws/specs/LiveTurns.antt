@@ -2,7 +2,7 @@
 use Rattle.std.specs.Prelude.{◌≡◌, ◌≤◌, ◌+◌, ℕ, min, true, false, List, slice_get, Some}
 use Rattle.otn_base.specs.declared.kind.PortName.TheVariants as port
 use Rattle.port_base.specs.Sent.{IsSent}
-use Rattle.port_base.specs.Views.{OutView, BaysView, line_in_at, line_out_at, client_in_at, client_out_at}
+use Rattle.port_base.specs.Views.{OutView, BaysView, line_out_at, client_out_at}
 use Rattle.line_side.specs.LineForm.{through_mask}
 use Rattle.odu_client.specs.ClientInput.{input_given}
 use Rattle.plan_file.specs.declared.connection.Connection.{Connection}
@@ -23,17 +23,11 @@ inputs_of plan handed = record {
   client = λ n. input_given false (handed.client n);
 }
 
--- no input has failed: bytes in memory can be read
-pub record NeverFails (now : BaysView) : Type 0 where
-  pub line_in : (a : ℕ) → (line_in_at now a).faults ≡ 0
-  pub client_in : (n : ℕ) → (client_in_at now n).faults ≡ 0
-
 -- All bytes handed in so far, and no others, are among what the inputs of a live node may turn out to be. So what is
 -- said of it for all that they may turn out to be is said of these.
 abbrev pub HandedMayGive : Type 0
 HandedMayGive = (plan : Plan) (handed : InputBytes) (node : NodeView) (now : BaysView)
-    → (stands : LiveStands plan handed node now) → NeverFails now
-    → MayGive plan stands.read node (inputs_of plan handed)
+    → (stands : LiveStands plan handed node now) → MayGive plan stands.read node (inputs_of plan handed)
 
 -- how many turns have left: before anything of turn past + 1 is taken of an input its outputs are served
 abbrev pub turns_out : NodeView → ℕ
@@ -48,18 +42,18 @@ pub record ClientLeft (x : Connection) (past : ℕ) (due : List ℕ) (now : OutV
   pub sent : IsSent telling due was
   pub place : now ≡ out_after_retire (is_retired x past) was
 
--- By now the outputs got what the first so many turns of a plan have due to them where the inputs are these: a live
--- place all of it, and nothing else.
-pub record HaveLeft (plan : Plan) (inputs : Inputs) (past turns : ℕ) (now : BaysView) : Type 0 where
-  pub line : (b : ℕ) → uses plan (port.LineOut b) ≡ true
-      → (due : List ℕ) × LineDue plan inputs b turns 0 due × IsSent telling due (line_out_at now b)
+-- By now the outputs got what the first turns of a plan have due to them where the inputs are these, as many as have
+-- left: a live place all of it, and nothing else. Of its lines a node says which it has; what holds of every node says
+-- that it has all (`IsNode`).
+pub record HaveLeft (plan : Plan) (inputs : Inputs) (node : NodeView) (now : BaysView) : Type 0 where
+  pub line : IsNode node → (b : ℕ) → uses plan (port.LineOut b) ≡ true
+      → (due : List ℕ) × LineDue plan inputs b (turns_out node) 0 due × IsSent telling due (line_out_at now b)
   pub client : (i n : ℕ) (x : Connection) → slice_get plan.connections i ≡ Some x → x.to ≡ to_end.Client n
-      → x.start ≤ past + 1
-      → ClientLeft x past (client_due x (own_input inputs x) turns 0) (client_out_at now n)
+      → x.start ≤ node.past + 1
+      → ClientLeft x node.past (client_due x (own_input inputs x) (turns_out node) 0) (client_out_at now n)
 
 -- What has left of a live node is what the definitions have due of all bytes handed in so far: nothing that is handed
 -- in later changes it.
 abbrev pub LiveTurns : Type 0
 LiveTurns = (plan : Plan) (handed : InputBytes) (node : NodeView) (now : BaysView) → LiveStands plan handed node now
-    → NeverFails now → IsNode node → AreServed node
-    → HaveLeft plan (inputs_of plan handed) node.past (turns_out node) now
+    → AreServed node → HaveLeft plan (inputs_of plan handed) node now

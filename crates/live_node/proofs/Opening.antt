@@ -36,7 +36,7 @@ extended P n before at m h = by_place (below_or_same m n h)
     by_place (inl less) = before m less
     by_place (inr same) = subst P (sym same) at
 
-apart_below : (m n : ℕ) → m < n → m ≢ n
+pub apart_below : (m n : ℕ) → m < n → m ≢ n
 apart_below m n less = omega arith
 
 some_place : {A : Type 0} (l : List A) (n : ℕ) (d : A) → n < length l → slice_get l n ≡ Some (get_or l n d)

@@ -1,3 +1,4 @@
 pub mod Served
 pub mod Places
 pub mod Live
+pub mod Kept

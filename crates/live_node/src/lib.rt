@@ -4,12 +4,14 @@
 //!
 //! - `live_node`: the node.
 //! - `places`: its places, which hold ports in memory.
+//! - `kept`: whether its outputs keep all that leaves in the next turn.
 //! - `serving`: all pieces of the outputs in a turn.
 //! - `line_watch`: how many frames of an input line the next turn looks at.
 //! - `client_watch`: how much of a client's packets the next turn takes.
 #![tactic(auto)]
 
 mod client_watch;
+mod kept;
 mod line_watch;
 mod live_node;
 mod places;

@@ -5,14 +5,16 @@ ghost use Rattle.device_model.specs.Report.{report_text};
 ghost use Rattle.device_model.specs.RunNumbers.{numbers_of_run};
 ghost use Rattle.node_moments.specs.Stands.{no_bytes};
 ghost use Rattle.live_laws.specs.Live.{AreServed, LiveStands};
-ghost use Rattle.live_node.specs.Live.{GoesOn, HasLeft, IsStill, TakesLine, TakesPackets};
+ghost use Rattle.live_laws.specs.LiveTurns.{inputs_of, HaveLeft};
+ghost use Rattle.live_node.specs.Kept.{HandsOutSince, KeepsAll, KeepsOutputs};
+ghost use Rattle.live_node.specs.Live.{GoesOn, HasLeft, IsStill, PutsOut, PutsOutOfLine, PutsOutOfPackets, TakesLine, TakesPackets};
 ghost use Rattle.live_node.specs.Places.{places, line_kept, client_kept};
 
 use crate::client_watch::{ClientWatch, are_lines};
+use crate::kept::{keep_all, nothing_sent, sent_so_far};
 use crate::line_watch::{LineWatch, are_frames};
 use crate::places::{
-    Places, client_kept, hand_in_client, hand_in_line, has_died, let_go_of_outputs, line_kept,
-    open_places,
+    Places, client_kept, hand_in_client, hand_in_line, let_go_of_outputs, line_kept, open_places,
 };
 use crate::serving::serve_outputs;
 use crate::{HandedIn, Lack};
@@ -46,6 +48,7 @@ pub struct LiveNode {
     lines: Vec<LineWatch>,
     clients: Vec<ClientWatch>,
     ghost accepted: { fault_in plan ≡ None },
+    ghost served: { AreServed node },
 }
 
 impl LiveNode {
@@ -56,13 +59,15 @@ impl LiveNode {
         ensures turns { IfOk result (λ live. live.node.turns ≡ plan.turns) }
         ensures past { IfOk result (λ live. live.node.past ≡ 0) }
         ensures served { IfOk result (λ live. AreServed live.node) }
+        ensures left { IfOk result (λ live. HaveLeft plan (inputs_of plan no_bytes) live.node (places live.bays)) }
+        ensures handed { IfOk result (λ live. KeepsAll live.node live.bays) }
     {
         let mut node = Node::build(alloc, &plan)?;
         let mut bays = open_places(alloc)?;
         let lines = line_watches(alloc, &plan, &node)?;
         let clients = client_watches(alloc, &plan)?;
         serve_outputs(&mut node, &mut bays);
-        if has_died(&bays) {
+        if !keep_all(&bays, &nothing_sent()) {
             return Err(Memory);
         }
         Ok(LiveNode {
@@ -85,8 +90,11 @@ impl LiveNode {
     pub fn hand_in_line(&mut self, a: u8, frames: &[u8]) -> Result<HandedIn, Memory>
         ensures taken { result ≡ Ok HandedIn.Taken → TakesLine a frames.now self.old.node self.new.node
             (places self.old.bays) (places self.new.bays) }
+        ensures left { result ≡ Ok HandedIn.Taken → PutsOutOfLine a frames.now self.old.node self.new.node
+            (places self.old.bays) (places self.new.bays) }
         ensures still { result ≢ Ok HandedIn.Taken → IsStill self.old.node self.new.node (places self.old.bays)
             (places self.new.bays) }
+        ensures kept { KeepsOutputs self.old.bays self.new.bays }
     {
         if a >= LINES as u8 {
             return Ok(HandedIn::NoInput);
@@ -107,8 +115,11 @@ impl LiveNode {
     pub fn hand_in_client(&mut self, n: u8, text: &[u8]) -> Result<HandedIn, Memory>
         ensures taken { result ≡ Ok HandedIn.Taken → TakesPackets n text.now self.old.node self.new.node
             (places self.old.bays) (places self.new.bays) }
+        ensures left { result ≡ Ok HandedIn.Taken → PutsOutOfPackets n text.now self.old.node self.new.node
+            (places self.old.bays) (places self.new.bays) }
         ensures still { result ≢ Ok HandedIn.Taken → IsStill self.old.node self.new.node (places self.old.bays)
             (places self.new.bays) }
+        ensures kept { KeepsOutputs self.old.bays self.new.bays }
     {
         if n >= CLIENTS as u8 {
             return Ok(HandedIn::NoInput);
@@ -126,7 +137,8 @@ impl LiveNode {
 
     /// Ends line input `a`: no more frames come.
     pub fn end_line(&mut self, a: u8)
-        ensures { IsStill self.old.node self.new.node (places self.old.bays) (places self.new.bays) }
+        ensures still { IsStill self.old.node self.new.node (places self.old.bays) (places self.new.bays) }
+        ensures kept { KeepsOutputs self.old.bays self.new.bays }
     {
         if let Some(watch) = self.lines.get_mut(a as usize) {
             watch.close();
@@ -135,7 +147,8 @@ impl LiveNode {
 
     /// Ends client input `n`: no more packets come.
     pub fn end_client(&mut self, n: u8)
-        ensures { IsStill self.old.node self.new.node (places self.old.bays) (places self.new.bays) }
+        ensures still { IsStill self.old.node self.new.node (places self.old.bays) (places self.new.bays) }
+        ensures kept { KeepsOutputs self.old.bays self.new.bays }
     {
         if let Some(watch) = self.clients.get_mut(n as usize) {
             watch.close();
@@ -159,9 +172,14 @@ impl LiveNode {
         ensures stands { GoesOn self.old.node self.new.node (places self.old.bays) (places self.new.bays) }
         ensures done { result ≡ Ok Turned.Done → self.new.node.past ≡ self.old.node.past + 1 }
         ensures served { result ≡ Ok Turned.Done → AreServed self.new.node }
+        ensures left { PutsOut self.old.node self.new.node (places self.old.bays) (places self.new.bays) }
+        ensures handed { result ≡ Ok Turned.Done → HandsOutSince self.old.node self.new.node (places self.old.bays)
+            self.new.bays }
         ensures over { result ≡ Ok Turned.Over → self.old.node.turns ≤ self.old.node.past }
         ensures still { (turned : Turned) → result ≡ Ok turned → turned ≢ Turned.Done → IsStill self.old.node
             self.new.node (places self.old.bays) (places self.new.bays) }
+        ensures kept { (turned : Turned) → result ≡ Ok turned → turned ≢ Turned.Done
+            → KeepsOutputs self.old.bays self.new.bays }
     {
         if self.node.finished() {
             return Ok(Turned::Over);
@@ -170,11 +188,12 @@ impl LiveNode {
             return Ok(Turned::Waits(port));
         }
         let_go_of_outputs(&mut self.bays);
+        let sent = sent_so_far(&self.bays);
         end_turn(&mut self.node, &mut self.bays);
         serve_outputs(&mut self.node, &mut self.bays);
         end_lines(&mut self.lines);
         begin_clients(&mut self.clients, &self.plan, self.node.turn());
-        if has_died(&self.bays) {
+        if !keep_all(&self.bays, &sent) {
             return Err(Memory);
         }
         Ok(Turned::Done)
@@ -252,7 +271,8 @@ impl LiveNode {
 
     // Frames of a line are to be handed in.
     fn note_line(&mut self, a: u8, frames: &[u8]) -> Result<(), Memory>
-        ensures { IsStill self.old.node self.new.node (places self.old.bays) (places self.new.bays) }
+        ensures still { IsStill self.old.node self.new.node (places self.old.bays) (places self.new.bays) }
+        ensures bays { self.new.bays ≡ self.old.bays }
     {
         match self.lines.get_mut(a as usize) {
             Some(watch) => watch.note(frames),
@@ -262,7 +282,8 @@ impl LiveNode {
 
     // They were, with this answer.
     fn line_answered(&mut self, a: u8, answer: &Result<HandedIn, Memory>, frames: &[u8])
-        ensures { IsStill self.old.node self.new.node (places self.old.bays) (places self.new.bays) }
+        ensures still { IsStill self.old.node self.new.node (places self.old.bays) (places self.new.bays) }
+        ensures bays { self.new.bays ≡ self.old.bays }
     {
         if let Some(watch) = self.lines.get_mut(a as usize) {
             match answer {
@@ -275,7 +296,8 @@ impl LiveNode {
 
     // A text was handed in at a client, with this answer.
     fn client_answered(&mut self, n: u8, answer: &Result<HandedIn, Memory>, text: &[u8])
-        ensures { IsStill self.old.node self.new.node (places self.old.bays) (places self.new.bays) }
+        ensures still { IsStill self.old.node self.new.node (places self.old.bays) (places self.new.bays) }
+        ensures bays { self.new.bays ≡ self.old.bays }
     {
         if let Some(watch) = self.clients.get_mut(n as usize) {
             match answer {

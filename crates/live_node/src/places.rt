@@ -7,12 +7,13 @@ ghost use Rattle.port_base.specs.Views.{line_in_at, client_in_at};
 ghost use Rattle.node_moments.specs.Stands.{no_bytes};
 ghost use Rattle.live_laws.specs.HandedIn.{grown, LineGrew, ClientGrew};
 ghost use Rattle.live_laws.specs.Live.{OpensWith, holding, telling};
+ghost use Rattle.live_node.specs.Kept.{KeepsOutputs};
 ghost use Rattle.live_node.specs.Places.{places, kept_at, line_kept, client_kept, LinesUpTo, ClientsUpTo};
 
 use filled_ports::{FilledSink, FilledSource, Handed};
 use otn_base::Memory;
 use otn_base::limits::{CLIENTS, LINES};
-use port_base::{InPlaceOf, OutPlaceOf, Rack, Sink, Source, is_dead_out};
+use port_base::{InPlaceOf, OutPlaceOf, Rack, Sink, Source};
 use std::alloc::Global;
 
 /// What came of handing in.
@@ -77,6 +78,7 @@ pub(crate) fn hand_in_line(bays: &mut Places, a: u8, frames: &[u8]) -> Result<Ha
     ensures grew { result ≡ Ok HandedIn.Taken → LineGrew a frames.now (places bays.old) (places bays.new) }
     ensures going { result ≡ Ok HandedIn.Taken → (line_in_at (places bays.old) a).ended ≡ false }
     ensures still { result ≢ Ok HandedIn.Taken → places bays.new ≡ places bays.old }
+    ensures keeps { KeepsOutputs bays.old bays.new }
 {
     hand_in(bays.line_in_mut(a), frames)
 }
@@ -87,6 +89,7 @@ pub(crate) fn hand_in_client(bays: &mut Places, n: u8, text: &[u8]) -> Result<Ha
     ensures grew { result ≡ Ok HandedIn.Taken → ClientGrew n text.now (places bays.old) (places bays.new) }
     ensures going { result ≡ Ok HandedIn.Taken → (client_in_at (places bays.old) n).ended ≡ false }
     ensures still { result ≢ Ok HandedIn.Taken → places bays.new ≡ places bays.old }
+    ensures keeps { KeepsOutputs bays.old bays.new }
 {
     hand_in(bays.client_in_mut(n), text)
 }
@@ -177,19 +180,4 @@ fn let_go(place: &mut OutPlaceOf<FilledSink>)
         OutPlaceOf::Empty => {}
         OutPlaceOf::Dead(..) => {}
     }
-}
-
-/// Whether some output has died, for want of memory.
-pub(crate) fn has_died(bays: &Places) -> bool {
-    for b in 0..LINES as u8 {
-        if is_dead_out(bays.line_out(b)) {
-            return true;
-        }
-    }
-    for n in 0..CLIENTS as u8 {
-        if is_dead_out(bays.client_out(n)) {
-            return true;
-        }
-    }
-    false
 }

@@ -1,4 +1,4 @@
-use Rattle.std.proofs.Common.{◌∙◌}
+use Rattle.std.proofs.Common.{refl, ◌∙◌}
 use Rattle.live_node.proofs.Handing.{client_grew, client_ended, client_in_still}
 use Rattle.live_node.proofs.places.hand_in_client.Goals as goal
 
@@ -12,4 +12,5 @@ returns c =
       grew = λ taken. client_grew rack c.args.n old new c.args.text.now lent (c.hand_in.ensures.taken taken);
       going = λ taken. client_ended rack c.args.n old lent ∙ c.hand_in.ensures.going taken;
       still = λ not. client_in_still rack c.args.n old new lent (c.hand_in.ensures.still not);
+      keeps = record { lines = refl; clients = refl };
     }

@@ -1,4 +1,4 @@
-use Rattle.std.proofs.Common.{◌∙◌}
+use Rattle.std.proofs.Common.{refl, ◌∙◌}
 use Rattle.live_node.proofs.Handing.{line_grew, line_ended, line_in_still}
 use Rattle.live_node.proofs.places.hand_in_line.Goals as goal
 
@@ -12,4 +12,5 @@ returns c =
       grew = λ taken. line_grew rack c.args.a old new c.args.frames.now lent (c.hand_in.ensures.taken taken);
       going = λ taken. line_ended rack c.args.a old lent ∙ c.hand_in.ensures.going taken;
       still = λ not. line_in_still rack c.args.a old new lent (c.hand_in.ensures.still not);
+      keeps = record { lines = refl; clients = refl };
     }

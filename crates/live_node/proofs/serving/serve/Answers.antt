@@ -2,7 +2,7 @@ use Rattle.std.proofs.Common.{rules, ◌≡◌, true, ◌∙◌}
 use Rattle.port_base.specs.Racks.{bays_view}
 use Rattle.node_moments.specs.NodeView.{is_ready, left_of}
 use Rattle.node_moments.proofs.Later.{left_step}
-use Rattle.network_core.proofs.Growth.{leads_twice, smaller}
+use Rattle.network_core.proofs.Growth.{grows_twice, leads_twice, smaller}
 use Rattle.live_node.proofs.Served.{stays_step}
 use Rattle.live_node.proofs.serving.serve.Goals as goal
 
@@ -23,5 +23,6 @@ loop-port-preserved g c =
       stands = leads_twice c.args.node.now c.loop-port.node c.step.new.self first was is c.loop-port.invariant.stands e.stands;
       turns = e.turns ∙ c.loop-port.invariant.turns;
       past = e.past ∙ c.loop-port.invariant.past;
+      grows = grows_twice first was is c.loop-port.invariant.grows e.grows;
       kept = stays_step c.args.node.now c.loop-port.node c.step.new.self c.args.port c.loop-port.invariant.kept ready e.piece e.turns e.past;
     }

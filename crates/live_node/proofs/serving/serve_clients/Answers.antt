@@ -2,7 +2,7 @@ use Rattle.std.proofs.Common.{◌≡◌, false, ◌∙◌, refl, arith}
 use Rattle.otn_base.specs.declared.kind.PortName.TheVariants as port
 use Rattle.port_base.specs.Racks.{bays_view}
 use Rattle.node_moments.specs.NodeView.{is_ready}
-use Rattle.network_core.proofs.Growth.{leads_twice, stays}
+use Rattle.network_core.proofs.Growth.{grows_not, grows_twice, leads_twice, stays}
 use Rattle.live_node.proofs.Opening.{extended}
 use Rattle.live_node.proofs.Served.{stays_none, stays_twice}
 use Rattle.live_node.proofs.serving.serve_clients.Goals as goal
@@ -12,6 +12,7 @@ loop-n-init g c = record {
   stands = stays c.args.node.now (bays_view g.P.Source g.K.Sink c.args.bays.now);
   turns = refl;
   past = refl;
+  grows = grows_not (bays_view g.P.Source g.K.Sink c.args.bays.now);
   kept = stays_none c.args.node.now;
   served = λ m none. absurd (omega arith);
 }
@@ -27,6 +28,7 @@ loop-n-preserved g c =
       stands = leads_twice c.args.node.now c.loop-n.node c.serve.new.node first was is i.stands e.stands;
       turns = e.turns ∙ i.turns;
       past = e.past ∙ i.past;
+      grows = grows_twice first was is i.grows e.grows;
       kept = stays_twice c.args.node.now c.loop-n.node c.serve.new.node i.kept e.kept;
       served = extended (λ m. is_ready c.serve.new.node (port.ClientOut m) ≡ false) c.loop-n.n
           (λ m less. e.kept (port.ClientOut m) (i.served m less)) e.served;

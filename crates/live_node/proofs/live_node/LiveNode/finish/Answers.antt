@@ -1,5 +1,6 @@
 use Rattle.std.proofs.Common.{◌≤◌, rules}
 use Rattle.live_node.specs.Places.{places}
+use Rattle.live_node.proofs.Calm.{calm}
 use Rattle.live_node.proofs.live_node.LiveNode.finish.Goals as goal
 
 pub returns : goal.returns
@@ -14,4 +15,4 @@ returns c = λ plan handed h.
       settled = settled.settled plan h.first h.read h.stands;
       asked = settled.asked;
     }) in
-    record { first = h.first; opens = h.opens; takings = left.0; left = left.1 }
+    record { first = h.first; opens = h.opens; takings = left.0; left = left.1; calm = calm c.settle-outcome.new.bays }
