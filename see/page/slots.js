@@ -175,6 +175,18 @@ function diamond(g, x, y, size) {
 
 // ---- what the colours mean
 
+let other = null;
+
+// Whether the MSI byte of some slot says a port in a turn in which no customer has the slot.
+function isOther() {
+  if (other === null) {
+    other = false;
+    for (let i = 0; i < about.turns && !other; i++)
+      for (let k = 1; k <= line.slots; k++) other ||= cellOfTurn(k, i).look === 'other';
+  }
+  return other;
+}
+
 function drawLegend() {
   const blue = line.tributaries.length ? line.tributaries[0].colour : '#4878b0', {signal} = about.colours;
   const key = (words, fill, faint = 1, slanting = null) => {
@@ -189,8 +201,9 @@ function drawLegend() {
   const seen = state.proved ? [key('up', blue, .58)] : [key('packets end', blue), key('up, idle', blue, .58)];
   const signals = state.proved ? [] : SIGNALS.map(s => key(s, onGround(signal[s]), 1, s === 'AIS'));
   const marks = state.proved ? [] : [span('', span('bad', '◆'), ' message damaged')];
+  const alone = isOther() ? [key('MSI alone', look.dim, 1, false)] : [];
   $('legend').replaceChildren(...seen, key('up, Cm 0', blue, .3), key('waiting', blue, .2),
-    key('down', look['bad-fill'], 1, true), ...signals, key('free', look.pale), ...marks,
+    key('down', look['bad-fill'], 1, true), ...signals, key('free', look.pale), ...alone, ...marks,
     span('', span('bad', '□'), ' MSI wrong'), span('push'),
     span('hint', 'wheel: zoom · drag: move · click: look · ? for keys'));
 }
