@@ -1,5 +1,6 @@
 -- What has left of two live nodes is the same as far as the same was handed in.
-use Rattle.std.proofs.Common.{◌≡◌, ◌≢◌, ◌<◌, ◌≤◌, ◌+◌, ◌-◌, ◌*◌, ◌/◌, ◌%◌, ◌&&◌, ℕ, Bool, true, false, min, List, [], ◌++◌, length, take, Option, Some, None, slice_get, nat_le, if◌then◌else◌, refl, sym, ap, ◌∙◌, subst, arith}
+use Rattle.std.proofs.Common.{◌≡◌, ◌≢◌, ◌<◌, ◌≤◌, ◌+◌, ◌-◌, ◌*◌, ◌/◌, ◌%◌, ◌&&◌, ℕ, Bool, true, false, min, List}
+use Rattle.std.proofs.Common.{[], ◌++◌, length, take, Option, Some, None, slice_get, nat_le, if◌then◌else◌, refl, sym, ap, ◌∙◌, subst, arith}
 use Rattle.std.specs.Prelude.{⊤}
 use Rattle.std.specs.List.{Contains, concat}
 use Rattle.std.proofs.lemmas.List.{length-take, take_all}
