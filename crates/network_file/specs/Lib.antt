@@ -1,0 +1,12 @@
+pub mod Code
+pub mod Places
+pub mod Outline
+pub mod Keys
+pub mod Kinds
+pub mod Table
+pub mod Rules
+pub mod Refusal
+pub mod Answer
+pub mod Sound
+pub mod Joining
+pub mod Steps

@@ -1,0 +1,3 @@
+-- What private contracts alone cite: the steps of functions. No promise stands on them.
+pub mod KeyList
+pub mod Lines

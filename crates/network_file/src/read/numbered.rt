@@ -1,0 +1,94 @@
+// The file of an outline: its nodes, and its fibres by the indices of their nodes.
+ghost use Rattle.std.specs.Prelude.{◌≡◌, IfOk, IsTrue, map};
+ghost use Rattle.plan_file.specs.Entry.{natural};
+ghost use Rattle.plan_table.specs.NumberTests.{is_within};
+ghost use Rattle.network_file.specs.Outline.{ends_of, file_of, index_of};
+ghost use Rattle.network_file.specs.Steps.Lines.{AreAtLines, IsAtLines};
+
+use crate::fibre::{FibreEnds, Fibres};
+use crate::file::NetworkFile;
+use crate::node::{Folder, NodeEntry, Nodes};
+use crate::outline::{Fibre, Node, Outline};
+use otn_base::Memory;
+use plan_file::Name;
+use std::alloc::Global;
+
+/// The file of the outline.
+pub(crate) fn numbered(alloc: Global, outline: &Outline) -> Result<NetworkFile, Memory>
+    requires { AreAtLines outline.now.fibres }
+    ensures { IfOk result (λ file. file ≡ file_of outline.now) }
+{
+    let nodes = entries(alloc, &outline.nodes)?;
+    let fibres = ends(alloc, &outline.nodes, &outline.fibres)?;
+    Ok(NetworkFile {
+        nodes: Nodes::of(nodes),
+        fibres: Fibres::of(fibres),
+    })
+}
+
+// The nodes.
+fn entries(alloc: Global, nodes: &[Node]) -> Result<Vec<NodeEntry>, Memory>
+    ensures { IfOk result (λ list. list.items ≡ nodes.now) }
+{
+    let mut list = Vec::new(alloc);
+    for node in nodes {
+        list.push(entry(alloc, node)?)?;
+    }
+    Ok(list)
+}
+
+fn entry(alloc: Global, node: &Node) -> Result<NodeEntry, Memory>
+    ensures { IfOk result (λ entry. entry ≡ node.now) }
+{
+    let name = String::from_str(alloc, node.name())?;
+    let folder = String::from_str(alloc, node.folder())?;
+    Ok(NodeEntry {
+        name: Name::of(name),
+        folder: Folder::of(folder),
+    })
+}
+
+// The fibres, between these nodes.
+#[tactic(auto, using(plan_file::proofs::Filled::filled_more, plan_file::proofs::Filled::filled_all))]
+fn ends(alloc: Global, nodes: &[Node], fibres: &[Fibre]) -> Result<Vec<FibreEnds>, Memory>
+    requires { AreAtLines fibres.now }
+    ensures { IfOk result (λ list. list.items ≡ map (ends_of nodes.now) fibres.now) }
+{
+    let mut list = Vec::new(alloc);
+    for i in 0..fibres.len() {
+        list.push(ends_of(nodes, &fibres[i]))?;
+    }
+    Ok(list)
+}
+
+fn ends_of(nodes: &[Node], fibre: &Fibre) -> FibreEnds
+    requires { IsAtLines fibre.now }
+    ensures { result ≡ ends_of nodes.now fibre.now }
+{
+    FibreEnds::new(
+        index_of(fibre.from.node(), nodes),
+        line(fibre.from.line()),
+        index_of(fibre.to.node(), nodes),
+        line(fibre.to.line()),
+    )
+}
+
+// The index of the first node of this name; where there is none, how many there are.
+fn index_of(name: &str, nodes: &[Node]) -> usize
+    ensures { result ≡ index_of name.now nodes.now }
+{
+    for i in 0..nodes.len() {
+        if name == nodes[i].name() {
+            return i;
+        }
+    }
+    nodes.len()
+}
+
+// The number of a line.
+fn line(number: i64) -> u8
+    requires { IsTrue (is_within 0 3 number) }
+    ensures { result ≡ natural number }
+{
+    number as u8
+}

@@ -1,0 +1,6 @@
+// The rules of a network's values, tried one after another.
+mod fault;
+mod fibres;
+mod names;
+
+pub(crate) use fault::fault;
