@@ -9,6 +9,7 @@ ghost use Rattle.network_file.specs.Sound.{IsSound};
 use crate::error::NetworkError;
 use crate::fibre::FibreEnds;
 use crate::file::NetworkFile;
+use crate::lists::item;
 use crate::place::Place;
 use otn_base::{LineKind, PortName};
 use plan_file::Plan;
@@ -21,6 +22,13 @@ pub fn fault(file: &NetworkFile, plans: &[Plan]) -> Option<(NetworkError, Place)
     ensures first { result ≡ joining_fault file.now plans.now }
     ensures network { IsSound file.now → length plans.now ≡ length file.now.nodes
         → (result ≡ None) ↔ IsNetwork (network_of file.now plans.now) }
+{
+    first_fault(file, plans)
+}
+
+// The first of the two rules that is broken, at its first place.
+fn first_fault(file: &NetworkFile, plans: &[Plan]) -> Option<(NetworkError, Place)>
+    ensures { result ≡ joining_fault file.now plans.now }
 {
     match first_refused(plans) {
         Some(number) => Some((NetworkError::PlanRefused, Place::Node(number))),
@@ -37,7 +45,7 @@ fn first_refused(plans: &[Plan]) -> Option<usize>
     ensures { result ≡ first (places is_refused plans.now) }
 {
     for i in 0..plans.len() {
-        if is_refused(&plans[i]) {
+        if is_refused(item(plans, i)) {
             return Some(i + 1);
         }
     }
@@ -59,7 +67,7 @@ fn first_of_two_forms(fibres: &[FibreEnds], plans: &[Plan]) -> Option<usize>
     ensures { result ≡ first (places (has_two_forms plans.now) fibres.now) }
 {
     for i in 0..fibres.len() {
-        if has_two_forms(plans, &fibres[i]) {
+        if has_two_forms(plans, item(fibres, i)) {
             return Some(i + 1);
         }
     }

@@ -6,6 +6,7 @@
 //! - `node`, `fibre`: what a file is made of.
 //! - `error`, `place`: the rules by name and number, and where one is broken.
 //! - `table`: what stands in the TOML tables, and which keys and kinds of values they may have.
+//! - `lists`: elements of lists.
 //! - `outline`, `rules`: nodes and fibres as the text names them, and the rules of them.
 //! - `read`: from the text to the table, the first broken rule, and the file.
 #![tactic(auto)]
@@ -15,6 +16,7 @@ mod fibre;
 mod file;
 mod join;
 mod limits;
+mod lists;
 mod node;
 mod outline;
 mod place;

@@ -1,7 +1,7 @@
 // Texts that a person might write, with what is said of each: the rule that is broken first, by its number, and its first
 // place, or how many nodes and fibres there are.
-use crate::{FibreEnds, Fibres, Folder, NetworkError, NetworkFile, NoNetwork, NodeEntry, Nodes, Place, fault};
-use plan_file::{Name, Plan};
+use crate::{NetworkError, NetworkFile, NoNetwork, Place, fault};
+use plan_file::{Connections, LineList, NoPlan, Plan};
 use std::alloc::{AllocError, Global};
 use std::process::Abort;
 use std::test::Fail;
@@ -36,6 +36,19 @@ const FILES: &str = r#"
 nodes 2 fibres 2 | node = [{ name = "a" }, { name = "b" }] | [{ from = { node = "a", line = 0 }, to = { node = "b", line = 0 } }, { from = { node = "b", line = 0 }, to = { node = "a", line = 0 } }]
 "#;
 
+// Of two nodes with a fibre from line 0 of the first to line 1 of the second: what is wanted, the top of the plan of the
+// first, the connections of the second, and the top of its plan.
+const PLANS: &str = r#"
+accepted | otu3-in = [] | { line = 1, port = 1, slots = [3] } | otu3-out = []
+12 at fibre 1 | scrambled-out = [0] | { line = 1, port = 1, slots = [3] } | otu3-out = []
+12 at fibre 1 | otu3-in = [] | { line = 1, port = 1, slots = [3] } | scrambled-in = [1]
+accepted | scrambled-out = [0] | { line = 1, port = 1, slots = [3] } | scrambled-in = [0, 1]
+12 at fibre 1 | otu3-out = [0] | { line = 1, port = 1, slots = [3] } | otu3-out = []
+12 at fibre 1 | otu3-in = [] | { line = 1, port = 1, slots = [3] } | otu3-in = [1]
+accepted | otu3-out = [0] | { line = 1, port = 1, slots = [3] } | otu3-in = [1]
+accepted | otu3-out = [0] | { line = 2, port = 1, slots = [3] } | otu3-out = []
+"#;
+
 fn answer(alloc: Global, text: &[u8]) -> Result<String, AllocError> {
     match NetworkFile::read(alloc, text) {
         Ok(file) => {
@@ -48,6 +61,36 @@ fn answer(alloc: Global, text: &[u8]) -> Result<String, AllocError> {
             format!(in alloc; "{code} at {place}")
         }
         Err(NoNetwork::Memory) => format!(in alloc; "no memory"),
+    }
+}
+
+fn told(alloc: Global, fault: Option<(NetworkError, Place)>) -> Result<String, AllocError> {
+    match fault {
+        Some((error, place)) => {
+            let code = error.code();
+            format!(in alloc; "{code} at {place}")
+        }
+        None => format!(in alloc; "accepted"),
+    }
+}
+
+// A file of two nodes and the fibre between them.
+fn pair(alloc: Global) -> Result<NetworkFile, NoNetwork> {
+    let text = r#"
+node = [{ name = "a" }, { name = "b" }]
+fibre = [{ from = { node = "a", line = 0 }, to = { node = "b", line = 1 } }]
+"#;
+    NetworkFile::read(alloc, text.as_bytes())
+}
+
+// A plan of eight turns with this top and one connection between these ends.
+fn plan(alloc: Global, top: &str, from: &str, to: &str) -> Result<Plan, NoPlan> {
+    let text = format!(in alloc;
+        "version = 2\nturns = 8\n{top}\n[[connection]]\nname = \"x\"\nkind = \"odu0\"\nfrom = {from}\nto = {to}\n"
+    );
+    match text {
+        Ok(text) => Plan::read(alloc, text.as_bytes()),
+        Err(_) => Err(NoPlan::Memory),
     }
 }
 
@@ -65,6 +108,29 @@ fn judges_files(rt: HostRuntime) -> Result<(), Fail> {
                 None => assert!(rt; false, "{case}"),
             },
             None => assert!(rt; case.is_empty(), "{case}"),
+        }
+    }
+    Ok(())
+}
+
+#[test]
+fn judges_plans(rt: HostRuntime) -> Result<(), Fail> {
+    let alloc = rt.alloc();
+    let file = pair(alloc).ok().ok_or("file")?;
+    for case in PLANS.lines() {
+        let mut parts = case.split(" | ");
+        match (parts.next(), parts.next(), parts.next(), parts.next()) {
+            (Some(wanted), Some(top), Some(from), Some(next_top)) => {
+                let to = "{ line = 0, port = 1, slots = [3] }";
+                let here = plan(alloc, top, "{ client = 0 }", to).ok().ok_or("here")?;
+                let there = plan(alloc, next_top, from, "{ client = 0 }")
+                    .ok()
+                    .ok_or("there")?;
+                let plans = vec![in alloc; here, there]?;
+                let told = told(alloc, fault(&file, plans.as_slice()))?;
+                assert_eq!(rt; told.as_str(), wanted, "{case}");
+            }
+            _ => assert!(rt; case.is_empty(), "{case}"),
         }
     }
     Ok(())

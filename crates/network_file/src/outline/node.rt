@@ -1,5 +1,6 @@
 // A node, as the text has it.
 ghost use Rattle.std.specs.Prelude.{◌≡◌};
+ghost use Rattle.std.specs.Str.{bytes_eq};
 ghost use Rattle.toml.specs.View.{view};
 ghost use Rattle.network_file.specs.Table.{node_at};
 
@@ -35,6 +36,13 @@ impl<'a> Node<'a> {
             },
             None => Node { name, folder: name },
         }
+    }
+
+    /// Whether this is its name.
+    pub(crate) fn is_named(&self, name: &str) -> bool
+        ensures { result ≡ bytes_eq name.now self.now.name }
+    {
+        name == self.name
     }
 
     pub(crate) fn name(&self) -> &'a str

@@ -38,7 +38,7 @@ impl<'a> Outline<'a> {
     }
 }
 
-#[tactic(auto, using(plan_file::proofs::Filled::filled_more, plan_file::proofs::Filled::filled_all))]
+#[tactic(auto, using(crate::proofs::Filled::twice_all))]
 fn nodes_of<'a>(alloc: Global, values: &'a [Value]) -> Result<Vec<Node<'a>>, Memory>
     ensures { IfOk result (λ list. list.items ≡ map node_at (map view values.now)) }
 {
@@ -49,7 +49,7 @@ fn nodes_of<'a>(alloc: Global, values: &'a [Value]) -> Result<Vec<Node<'a>>, Mem
     Ok(list)
 }
 
-#[tactic(auto, using(plan_file::proofs::Filled::filled_more, plan_file::proofs::Filled::filled_all))]
+#[tactic(auto, using(crate::proofs::Filled::twice_all))]
 fn fibres_of<'a>(alloc: Global, values: &'a [Value]) -> Result<Vec<Fibre<'a>>, Memory>
     ensures { IfOk result (λ list. list.items ≡ map fibre_at (map view values.now)) }
 {

@@ -7,6 +7,7 @@ ghost use Rattle.network_file.specs.Steps.Lines.{AreAtLines, IsAtLines};
 
 use crate::fibre::{FibreEnds, Fibres};
 use crate::file::NetworkFile;
+use crate::lists::item;
 use crate::node::{Folder, NodeEntry, Nodes};
 use crate::outline::{Fibre, Node, Outline};
 use otn_base::Memory;
@@ -27,12 +28,13 @@ pub(crate) fn numbered(alloc: Global, outline: &Outline) -> Result<NetworkFile, 
 }
 
 // The nodes.
+#[tactic(auto, using(crate::proofs::Filled::copied))]
 fn entries(alloc: Global, nodes: &[Node]) -> Result<Vec<NodeEntry>, Memory>
     ensures { IfOk result (λ list. list.items ≡ nodes.now) }
 {
     let mut list = Vec::new(alloc);
-    for node in nodes {
-        list.push(entry(alloc, node)?)?;
+    for i in 0..nodes.len() {
+        list.push(entry(alloc, item(nodes, i))?)?;
     }
     Ok(list)
 }
@@ -56,7 +58,7 @@ fn ends(alloc: Global, nodes: &[Node], fibres: &[Fibre]) -> Result<Vec<FibreEnds
 {
     let mut list = Vec::new(alloc);
     for i in 0..fibres.len() {
-        list.push(ends_of(nodes, &fibres[i]))?;
+        list.push(ends_of(nodes, item(fibres, i)))?;
     }
     Ok(list)
 }
@@ -74,11 +76,12 @@ fn ends_of(nodes: &[Node], fibre: &Fibre) -> FibreEnds
 }
 
 // The index of the first node of this name; where there is none, how many there are.
+#[tactic(auto, using(crate::proofs::Names::indices))]
 fn index_of(name: &str, nodes: &[Node]) -> usize
     ensures { result ≡ index_of name.now nodes.now }
 {
     for i in 0..nodes.len() {
-        if name == nodes[i].name() {
+        if item(nodes, i).is_named(name) {
             return i;
         }
     }

@@ -8,8 +8,9 @@ ghost use Rattle.network_file.specs.Refusal.{breaks_fibre, breaks_node, breaks_t
 use crate::error::NetworkError;
 use crate::place::{Place, at_fibre};
 use crate::table::{
-    fibres_at, has_fibre_kinds, has_node_kinds, has_top_kinds, has_unknown_fibre_key, has_unknown_node_key,
-    has_unknown_top_key, lacks_fibre_key, lacks_node_key, lacks_nodes, nodes_at,
+    fibres_at, has_fibre_kinds, has_node_kinds, has_top_kinds, has_unknown_fibre_key,
+    has_unknown_node_key, has_unknown_top_key, lacks_fibre_key, lacks_node_key, lacks_nodes,
+    nodes_at,
 };
 use plan_table::item;
 use toml::{Table, Value};

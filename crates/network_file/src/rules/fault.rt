@@ -60,5 +60,7 @@ fn value_place(rule: NetworkError, outline: &Outline) -> Option<Place>
 fn has_too_many(outline: &Outline) -> bool
     ensures { result ≡ has_too_many outline.now }
 {
-    outline.nodes.len() == 0 || outline.nodes.len() > MOST_NODES || outline.fibres.len() > MOST_FIBRES
+    outline.nodes.len() == 0
+        || outline.nodes.len() > MOST_NODES
+        || outline.fibres.len() > MOST_FIBRES
 }

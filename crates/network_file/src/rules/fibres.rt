@@ -4,6 +4,7 @@ ghost use Rattle.std.specs.List.{list_any};
 ghost use Rattle.plan_file.specs.Places.{first, later_places, places};
 ghost use Rattle.network_file.specs.Rules.{lacks_line, lacks_node, lead_to_one_line, names};
 
+use crate::lists::item;
 use crate::outline::{Fibre, Node};
 use otn_base::limits::LINES;
 use plan_table::is_within;
@@ -14,7 +15,7 @@ pub(crate) fn first_without_node(nodes: &[Node], fibres: &[Fibre]) -> Option<usi
     ensures { result ≡ first (places (lacks_node nodes.now) fibres.now) }
 {
     for i in 0..fibres.len() {
-        if lacks_node(nodes, &fibres[i]) {
+        if lacks_node(nodes, item(fibres, i)) {
             return Some(i + 1);
         }
     }
@@ -27,7 +28,7 @@ pub(crate) fn first_without_line(fibres: &[Fibre]) -> Option<usize>
     ensures { result ≡ first (places lacks_line fibres.now) }
 {
     for i in 0..fibres.len() {
-        if lacks_line(&fibres[i]) {
+        if lacks_line(item(fibres, i)) {
             return Some(i + 1);
         }
     }
@@ -40,7 +41,7 @@ pub(crate) fn first_line_twice(fibres: &[Fibre]) -> Option<usize>
     ensures { result ≡ first (later_places lead_to_one_line fibres.now) }
 {
     for i in 0..fibres.len() {
-        if is_line_taken(fibres, i, &fibres[i]) {
+        if is_line_taken(fibres, i, item(fibres, i)) {
             return Some(i + 1);
         }
     }
@@ -54,7 +55,7 @@ fn is_line_taken(fibres: &[Fibre], count: usize, later: &Fibre) -> bool
     ensures { result ≡ list_any (λ earlier. lead_to_one_line earlier later.now) (take count fibres.now) }
 {
     for i in 0..count {
-        if lead_to_one_line(&fibres[i], later) {
+        if lead_to_one_line(item(fibres, i), later) {
             return true;
         }
     }
@@ -85,7 +86,7 @@ fn names(nodes: &[Node], name: &str) -> bool
     ensures { result ≡ names nodes.now name.now }
 {
     for node in nodes {
-        if name == node.name() {
+        if node.is_named(name) {
             return true;
         }
     }

@@ -5,6 +5,7 @@ ghost use Rattle.plan_file.specs.Places.{first, later_places, places};
 ghost use Rattle.plan_table.specs.NumberTests.{is_name_byte};
 ghost use Rattle.network_file.specs.Rules.{breaks_name, have_one_name, is_folder, is_path, is_path_byte};
 
+use crate::lists::item;
 use crate::outline::Node;
 use plan_table::is_name;
 
@@ -14,7 +15,7 @@ pub(crate) fn first_bad_name(nodes: &[Node]) -> Option<usize>
     ensures { result ≡ first (places breaks_name nodes.now) }
 {
     for i in 0..nodes.len() {
-        if breaks_name(&nodes[i]) {
+        if breaks_name(item(nodes, i)) {
             return Some(i + 1);
         }
     }
@@ -27,7 +28,7 @@ pub(crate) fn first_name_twice(nodes: &[Node]) -> Option<usize>
     ensures { result ≡ first (later_places have_one_name nodes.now) }
 {
     for i in 0..nodes.len() {
-        if has_name_before(nodes, i, &nodes[i]) {
+        if has_name_before(nodes, i, item(nodes, i)) {
             return Some(i + 1);
         }
     }
@@ -41,7 +42,7 @@ fn has_name_before(nodes: &[Node], count: usize, later: &Node) -> bool
     ensures { result ≡ list_any (λ earlier. have_one_name earlier later.now) (take count nodes.now) }
 {
     for i in 0..count {
-        if have_one_name(&nodes[i], later) {
+        if have_one_name(item(nodes, i), later) {
             return true;
         }
     }

@@ -1,0 +1,19 @@
+use Rattle.std.proofs.Common.{◌+◌, ◌∙◌, sym, ap, map}
+use Rattle.toml.specs.View.{view}
+use Rattle.plan_file.specs.Places.{first}
+use Rattle.plan_file.proofs.Lists.{slice_get_known}
+use Rattle.plan_file.proofs.Steps.{places_go, places_stop}
+use Rattle.network_file.specs.Refusal.{breaks_fibre}
+use Rattle.network_file.proofs.read.table.first_fibre.Goals as goal
+
+pub returns-then-breaks_fibre : goal.returns-then-breaks_fibre
+returns-then-breaks_fibre c =
+    let known = slice_get_known view c.args.fibres.now c.loop-i.i c.item.result.now c.item.ensures in
+    sym (ap first c.loop-i.invariant
+    ∙ places_stop (breaks_fibre c.args.rule) (c.loop-i.i + 1) (map view c.args.fibres.now) c.loop-i.i (view c.item.result.now) known (sym c.if-breaks_fibre.ensures))
+
+pub loop-i-preserved : goal.loop-i-preserved
+loop-i-preserved c =
+    let known = slice_get_known view c.args.fibres.now c.loop-i.i c.item.result.now c.item.ensures in
+    c.loop-i.invariant
+    ∙ places_go (breaks_fibre c.args.rule) (c.loop-i.i + 1) (map view c.args.fibres.now) c.loop-i.i (view c.item.result.now) known (sym c.if-breaks_fibre.ensures)
