@@ -51,8 +51,8 @@ ClientGot live n bytes = HasGot (client_out_at live.now n) bytes
 -- ---- a connection of both
 
 -- What has left on a connection is the same of both, whose plans may differ: to its client the same text, where as many
--- of its own turns have left; on its line the same byte at each own place of each turn that has left of both, where both
--- lines are scrambled, or neither is. So far as this says `Turn`, of an own turn from 0.
+-- of its own turns have left; on its line the same byte at each own place of each turn that has left of both, where
+-- both lines are scrambled, or neither is. It is so of the own turns, from 0, of which `Turn` says it.
 pub record LeaveAlike (Turn : (own : ℕ) → Type 0) (plan other_plan : Plan) (one other : LiveMoment)
     (x : Connection) : Type 0 where
   pub client : (n own : ℕ) (text others : List ℕ) → x.to ≡ to_end.Client n → x.start ≤ one.node.past + 1

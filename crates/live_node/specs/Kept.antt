@@ -21,7 +21,7 @@ pub record HandsOut (was is : OutView) (kept : List ℕ) : Type 0 where
   pub adds : (bytes others : List ℕ) → HasGot was bytes → HasGot is others → others ≡ bytes ++ kept
   pub emptied : is.state ≢ Live → kept ≡ []
 
--- each output does; of a node's lines, whatever it has of them
+-- each output does; of lines it is said of a node that has all four
 pub record OutputsHandOut (old new : NodeView) (was : BaysView) (bays : Rack FilledSource FilledSink) : Type 0 where
   pub line : IsNode old → IsNode new → (b : ℕ) → b < 4
       → HandsOut (line_out_at was b) (line_out_at (places bays) b) (line_kept bays b)
