@@ -1,6 +1,6 @@
 -- What has left of two live nodes is the same as far as the same was handed in.
-use Rattle.std.proofs.Common.{◌≡◌, ◌≢◌, ◌<◌, ◌≤◌, ◌+◌, ◌-◌, ◌*◌, ◌/◌, ◌%◌, ◌&&◌, ℕ, Bool, true, false, min, List}
-use Rattle.std.proofs.Common.{[], ◌++◌, length, take, Option, Some, None, slice_get, nat_le, if◌then◌else◌, refl, sym, ap, ◌∙◌, subst, arith}
+use Rattle.std.proofs.Common.{◌≡◌, ◌<◌, ◌≤◌, ◌+◌, ◌-◌, ◌*◌, ◌/◌, ◌%◌, ◌&&◌, ℕ, Bool, true, false, min}
+use Rattle.std.proofs.Common.{List, length, take, Option, Some, None, slice_get, nat_le, if◌then◌else◌, refl, sym, ap, ◌∙◌, subst, arith}
 use Rattle.std.specs.Prelude.{⊤}
 use Rattle.std.specs.List.{Contains, concat}
 use Rattle.std.proofs.lemmas.List.{length-take, take_all}
@@ -25,9 +25,9 @@ use Rattle.device_model.specs.LineFiles.{IsFrameOf, IsLineFile}
 use Rattle.device_model.specs.Moments.{uses, turns_done, client_due, is_retired, LineDue}
 use Rattle.device_model.specs.RetiredPlaces.{out_after_retire}
 use Rattle.device_model.specs.Through.{Inputs, OwnInput, own_input, got_by, text_by}
-use Rattle.device_model.proofs.ConnectionPorts.{to_line_used, to_client_used}
-use Rattle.connection_laws.specs.TwoWorlds.{AgreeOnEnd, SameInput, FiledRun, HasFrame, HaveFrame, HaveSameByte, written}
-use Rattle.connection_laws.specs.UpToTurn.{AgreeUpTo, ShowUpTo}
+use Rattle.device_model.proofs.ConnectionPorts.{to_line_used}
+use Rattle.connection_laws.specs.TwoWorlds.{SameInput, FiledRun, HasFrame, HaveFrame, HaveSameByte}
+use Rattle.connection_laws.specs.UpToTurn.{ShowUpTo}
 use Rattle.connection_laws.proofs.OneFile.{one_file}
 use Rattle.connection_laws.proofs.OwnBytes.{writes_as_got}
 use Rattle.connection_laws.proofs.UpToTurn.{looks_not_ahead, shows_the_same_up_to}
@@ -37,8 +37,8 @@ use Rattle.run_laws.proofs.RunsAlike.{all_of, frame_made}
 use Rattle.node_moments.specs.NodeView.{NodeView}
 use Rattle.node_moments.specs.Stands.{InputBytes}
 use Rattle.live_laws.specs.Live.{telling, AreServed, LiveStands}
-use Rattle.live_laws.specs.LiveTurns.{inputs_of, turns_out, HaveLeft, ClientLeft}
-use Rattle.live_laws.specs.LivePairs.{LiveMoment, IsLive, HasGot, LineGot, ClientGot, LeaveAlike, LivesAreIsolated, LivesLookNotAhead, AgreeSoFar, LeaveTheSame, RingsClose, turns_of}
+use Rattle.live_laws.specs.LiveTurns.{inputs_of, turns_out}
+use Rattle.live_laws.specs.LivePairs.{LiveMoment, IsLive, HasGot, LineGot, ClientGot, LeaveAlike, LivesAreIsolated, LivesLookNotAhead, AgreeSoFar, RingsClose, turns_of}
 use Rattle.live_laws.proofs.LiveTurns.{live_turns}
 
 -- ---- what a live place got is what was due

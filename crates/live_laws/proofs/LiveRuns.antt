@@ -10,11 +10,10 @@ use Rattle.device_model.specs.Inputs.{has_died}
 use Rattle.device_model.specs.Moments.{uses}
 use Rattle.device_model.specs.Report.{Numbers}
 use Rattle.device_model.specs.RetiredPlaces.{after_retire}
-use Rattle.device_model.specs.RunLeft.{Takings, RunLeft}
 use Rattle.node_moments.specs.Stands.{InputBytes}
 use Rattle.run_laws.specs.SeenRuns.{Run, LineGave, ClientGave}
 use Rattle.run_laws.proofs.GivenRuns.{client_read}
-use Rattle.live_laws.specs.Live.{holding, OpensWith, LeavesAsRun}
+use Rattle.live_laws.specs.Live.{holding, LeavesAsRun}
 use Rattle.live_laws.specs.LiveTurns.{inputs_of}
 use Rattle.live_laws.specs.LiveRuns.{LivesAreRuns}
 use Rattle.live_laws.proofs.MayCome.{still_live, was_live}

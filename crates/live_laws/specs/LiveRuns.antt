@@ -1,5 +1,5 @@
 -- Believed: a live node whose turns are all done, as a run of its plan over the bytes handed in.
-use Rattle.std.specs.Prelude.{◌≡◌, ◌<◌, ℕ, None, List, Some}
+use Rattle.std.specs.Prelude.{◌≡◌, ◌<◌, ℕ, None}
 use Rattle.port_base.specs.Views.{BaysView}
 use Rattle.plan_file.specs.Answer.{fault_in}
 use Rattle.plan_file.specs.declared.plan.Plan.{Plan}
