@@ -26,6 +26,8 @@ mod laws;
 mod outputs;
 mod places;
 mod slice_source;
+#[cfg(test)]
+mod tests;
 mod version;
 mod words;
 
