@@ -1,6 +1,6 @@
 // The plan's file, read before any other is opened.
-ghost use Rattle.std.specs.Prelude.{◌≡◌, ◌↔◌, true, false, IfOk, IfSome, IsOk, IsTrue, vec_len};
-ghost use Rattle.port_base.specs.Bytes.{before};
+ghost use Rattle.std.specs.Prelude.{◌≡◌, ◌↔◌, true, false, IfOk, IfSome, IsOk, IsTrue, MatchOption, vec_len};
+ghost use Rattle.port_base.specs.Bytes.{HasFailed, before};
 ghost use Rattle.port_base.specs.PortViews.{source_view};
 ghost use Rattle.check_command.specs.PlanReading.{IsAll, most_read};
 ghost use Rattle.command_words.specs.Words.{texts};
@@ -21,6 +21,8 @@ pub fn plan_text<P: Source>(alloc: Global, plan: &mut P) -> Result<Option<Vec<u8
     ensures bytes { IfOk result (λ text. IfSome text (λ bytes. P.left plan.old
         ≡ before bytes.items (P.left plan.new))) }
     ensures all { IfOk result (λ text. IfSome text (λ bytes. IsAll bytes.items (source_view P.Source plan.new))) }
+    ensures failed { IfOk result (λ text. MatchOption text (HasFailed (P.faults plan.old) (P.faults plan.new))
+        (λ _. P.faults plan.new ≡ P.faults plan.old)) }
 {
     let mut room = plan_room(alloc)?;
     match read_whole(plan, &mut room) {
