@@ -211,7 +211,7 @@ def _moved_back(data: bytearray, changes: List[Change]) -> bytearray:
 
 
 def _moved(data: bytearray, edits: Iterable[Tuple[int, int, bytes]]) -> Tuple[bytearray, List[Change]]:
-    """The data with edits that rise: at a place so many bytes go out, and these come in."""
+    """The data with edits that rise: each a place, how many bytes are taken out there, and what comes in."""
     made, place, changes = bytearray(), 0, []
     for byte, out, now in edits:
         if byte < place:

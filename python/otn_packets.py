@@ -115,9 +115,9 @@ def test_packets(
     start: int = 1,
     fcs: bool = True,
 ) -> List[bytes]:
-    """The packets of a client: so many, or as many as begin in so many turns. Lengths are drawn between two `sizes`.
-    `rate` is the part of the client's bytes that they take; packets of zeros take the rest. `slots`, `pace`, `start`
-    and `fcs` are those of the connection in the plan, and say in which turn each packet leaves.
+    """The packets of a client: `packets` of them, or as many as begin in `turns` turns. Lengths are drawn between two
+    `sizes`. `rate` is the part of the client's bytes that they take; packets of zeros take the rest. `slots`, `pace`,
+    `start` and `fcs` are those of the connection in the plan, and say in which turn each packet leaves.
     """
     least, most = sizes
     if not LEAST <= least <= most <= 65_523:

@@ -16,7 +16,7 @@ const HOW = {
   '-2': '−2'
 };
 
-// The remainder of a number of so many bits by a generator.
+// The remainder of a number of `bits` bits by a generator.
 function remainder(value, bits, generator, degree) {
   let rest = value << degree;
   for (let i = bits + degree - 1; i >= degree; i--)

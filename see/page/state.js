@@ -56,7 +56,7 @@ function showTurn() {
   if (state.turn < state.from || state.turn + 1 > state.to) setPart(state.turn + .5 - span / 2, span);
 }
 
-// The part of the line that is shown: from a turn on, so many.
+// The part of the line that is shown: the first turn, and how many.
 function setPart(from, span) {
   const turns = clamp(span, Math.min(1, line.turns), line.turns);
   state.from = clamp(from, 0, line.turns - turns);

@@ -12,7 +12,7 @@ const mark = right => {
   return right ? el('span', {class: 'good', title: 'right'}, '✓') : el('span', {class: 'wrong', title: 'wrong'}, '✗');
 };
 const letterOf = byte => (byte > 32 && byte < 127 ? `“${String.fromCharCode(byte)}”` : hex(byte));
-const time = frames => frames * (line.slots === 8 ? 12.191 : 3.035);  // of so many frames, in microseconds
+const time = frames => frames * (line.slots === 8 ? 12.191 : 3.035);  // the time of frames, in microseconds
 const millis = micros => `${(micros / 1000).toFixed(3)} ms`;
 
 function drawTurn() {

@@ -1,4 +1,4 @@
-"""How long proofs take that are still to be made, on so many processors."""
+"""How long proofs take that are still to be made, by the number of processors."""
 import heapq
 
 

@@ -48,7 +48,7 @@ local function parity(frame)
     return x
 end
 
--- What is left of a number of so many bits, shifted up by the degree, over the generator.
+-- What is left of a number of `bits` bits, shifted up by the degree, over the generator.
 local function remainder(number, bits, generator, degree)
     local top = 2 ^ degree
     local rest = 0
