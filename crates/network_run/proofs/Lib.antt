@@ -1,0 +1,9 @@
+pub mod Begun
+pub mod Each
+pub mod Ended
+pub mod Going
+pub mod Lent
+pub mod Over
+pub mod Served
+pub mod Settling
+pub mod Turning

@@ -1,0 +1,196 @@
+-- The calls of a turn, one after another.
+use Rattle.std.proofs.Common.{◌≡◌, ◌≢◌, ◌≤◌, ◌<◌, ◌+◌, ◌⊎◌, inl, inr, ℕ, true, false, List, Option, Some, length, set, get_or, refl, sym, ap, ◌∙◌, subst, arith}
+use Rattle.std.specs.Prelude.{slice_get}
+use Rattle.std.proofs.lemmas.Bool.Decides.{eqb_tells}
+use Rattle.std.proofs.lemmas.List.{length-set}
+use Rattle.std.proofs.lemmas.Option.{same_Some, slice_get_within}
+use Rattle.port_base.specs.Views.{OutView, BaysView, no_output, line_out_at}
+use Rattle.port_base.specs.declared.sink.Sink as sink
+use Rattle.port_base.specs.declared.source.Source as source
+use Rattle.node_moments.specs.NodeView.{NodeView}
+use Rattle.network_laws.specs.Networks.{Network, IsNetwork}
+use Rattle.network_run.specs.Fibres.{HandedTo, FilledUp, LeftUnfilled, IsFilled}
+use Rattle.network_run.specs.Going.{AreFibres, Going, GoesOnThen, KeepsGoing, IsFull}
+use Rattle.network_run.specs.Sites.{EachOne, SiteWent, SiteTurned, SiteStill, SameNode, IsTurned, site_view}
+use Rattle.network_run.specs.declared.fibres.Filling.{Filling}
+use Rattle.network_run.specs.declared.site.Site.{Site}
+use Rattle.network_run.proofs.Each.{set_here, set_apart, below_or_here}
+use Rattle.network_run.proofs.Going.{GoesOn, some_at, all_go_on, all_still, fibre_filled, fibres_same}
+
+-- ---- lists of sites
+
+pub each_as : {A : Type 0} (One Other : A → A → Type 0) (olds news : List A) → ((old new : A) → One old new → Other old new) → EachOne One olds news
+    → EachOne Other olds news
+each_as One Other olds news as_other h = record { count = h.count; each = λ i old new was is. as_other old new (h.each i old new was is) }
+
+pub each_none : {A : Type 0} (Goes : A → A → Type 0) (all : List A) → ((one : A) → Goes one one) → EachOne Goes all all
+each_none Goes all stays = record {
+  count = refl;
+  each = λ i old new was is. subst (Goes old) (same_Some old new (sym was ∙ is)) (stays old);
+}
+
+pub each_twice : {A : Type 0} (One Two Both : A → A → Type 0) (olds mids news : List A) → ((old mid new : A) → One old mid → Two mid new → Both old new)
+    → EachOne One olds mids → EachOne Two mids news → EachOne Both olds news
+each_twice One Two Both olds mids news both one two = record {
+  count = two.count ∙ one.count;
+  each = λ i old new was is. (
+      let mid = some_at mids i (let within = slice_get_within olds i old was in let count = one.count in omega arith) in
+      both old mid.0 new (one.each i old mid.0 was mid.1) (two.each i mid.0 new mid.1 is));
+}
+
+module _ {P K : Type 0} (p : source.Ghosts P) (k : sink.Ghosts K) where
+  -- ---- one call after another
+
+  pub keeps_none : (sites : List (Site P K)) (fillings : List Filling) → KeepsGoing p k sites fillings sites fillings
+  keeps_none sites fillings network first net h = h
+
+  pub keeps_twice : (olds mids news : List (Site P K)) (was then is : List Filling) → KeepsGoing p k olds was mids then → KeepsGoing p k mids then news is
+      → KeepsGoing p k olds was news is
+  keeps_twice olds mids news was then is one two network first net h = two network first net (one network first net h)
+
+  pub keeps_went : (olds news : List (Site P K)) (fillings : List Filling) → EachOne (SiteWent p k) olds news → KeepsGoing p k olds fillings news fillings
+  keeps_went olds news fillings each network first net h = record {
+    fibres = h.fibres;
+    going = all_go_on p k network first olds news fillings net h.fibres
+        (each_as (SiteWent p k) (GoesOn p k) olds news (λ old new e. record { stands = e.stands; grows = e.grows }) each) h.going;
+  }
+
+  pub keeps_turned : (olds news : List (Site P K)) (fillings : List Filling) → EachOne (SiteTurned p k) olds news
+      → KeepsGoing p k olds fillings news fillings
+  keeps_turned olds news fillings each network first net h = record {
+    fibres = h.fibres;
+    going = all_go_on p k network first olds news fillings net h.fibres
+        (each_as (SiteTurned p k) (GoesOn p k) olds news (λ old new e. record { stands = e.stands; grows = e.grows }) each) h.going;
+  }
+
+  pub keeps_still : (olds news : List (Site P K)) (fillings : List Filling) → EachOne (SiteStill p k) olds news → KeepsGoing p k olds fillings news fillings
+  keeps_still olds news fillings each network first net h = record {
+    fibres = h.fibres;
+    going = all_still p k network first olds news fillings each h.going;
+  }
+
+  -- ---- a fibre that is filled
+
+  same_span : (was is : Filling) (olds news : List (Site P K)) → IsFilled p k was is olds news → is.span ≡ was.span
+  same_span was is olds news (inl up) = up.span
+  same_span was is olds news (inr left) = left.span
+
+  pub keeps_filled : (olds news : List (Site P K)) (fillings : List Filling) (n : ℕ) (was is : Filling) → slice_get fillings n ≡ Some was
+      → IsFilled p k was is olds news → KeepsGoing p k olds fillings news (set fillings n is)
+  keeps_filled olds news fillings n was is at filled network first net h = record {
+    fibres = fibres_same p k network first fillings n was is at (same_span was is olds news filled) h.fibres;
+    going = fibre_filled p k network first olds news fillings n was is net h.fibres at filled h.going;
+  }
+
+  -- what is seen of its line outputs is as it was, and so is its node
+  record OutsKept (old new : Site P K) : Type 0 where
+    node : new.node ≡ old.node
+    outs : (site_view p k new).line_out ≡ (site_view p k old).line_out
+
+  outs_handed : (olds news : List (Site P K)) (there into : ℕ) (bytes : List ℕ) → HandedTo p k there into bytes olds news → EachOne OutsKept olds news
+  outs_handed olds news there into bytes h = record {
+    count = ap length h.is ∙ length-set olds there h.new;
+    each = λ i old new was is. elim (eqb_tells i there) as (λ t. OutsKept old new) [
+      | inl t ↦
+          let one : h.old ≡ old = same_Some h.old old (sym h.at ∙ ap (slice_get olds) (sym t.1) ∙ was) in
+          let less = slice_get_within olds there h.old h.at in
+          let two : h.new ≡ new = same_Some h.new new
+          (sym (set_here olds there h.new less) ∙ ap (slice_get (set olds there h.new)) (sym t.1) ∙ ap (λ l. slice_get l i) (sym h.is) ∙ is) in
+          subst (λ s. OutsKept s new) one (subst (OutsKept h.old) two record { node = h.took.node; outs = h.took.grew.line_out })
+      | inr t ↦
+          let same : old ≡ new = same_Some old new
+          (sym was ∙ sym (set_apart olds there i h.new t.1) ∙ ap (λ l. slice_get l i) (sym h.is) ∙ is) in
+          subst (OutsKept old) same record { node = refl; outs = refl }
+    ];
+  }
+
+  outs_filled : (olds news : List (Site P K)) (was is : Filling) → IsFilled p k was is olds news → EachOne OutsKept olds news
+  outs_filled olds news was is (inl up) = outs_handed olds news was.span.there was.span.into up.bytes up.handed
+  outs_filled olds news was is (inr left) =
+      each_as (SiteStill p k) OutsKept olds news (λ old new e. record { node = e.node; outs = ap (λ (v : BaysView). v.line_out) e.places }) left.still
+
+  pub nodes_filled : (olds news : List (Site P K)) (was is : Filling) → IsFilled p k was is olds news → EachOne SameNode olds news
+  nodes_filled olds news was is filled =
+      each_as OutsKept SameNode olds news (λ old new e. e.node) (outs_filled olds news was is filled)
+
+  full_kept : (olds news : List (Site P K)) (f : Filling) → EachOne OutsKept olds news → IsFull p k olds f → IsFull p k news f
+  full_kept olds news f each h =
+      let new = some_at news f.span.here (let within = slice_get_within olds f.span.here h.site h.at in let count = each.count in omega arith) in
+      let kept = each.each f.span.here h.site new.0 h.at new.1 in
+      record {
+        site = new.0;
+        at = new.1;
+        got = h.got;
+        told = ap (λ (views : List OutView). (get_or views f.span.out no_output).got) kept.outs ∙ h.told;
+        all = h.all;
+      }
+
+  full_here : (olds news : List (Site P K)) (was is : Filling) → is.whole ≡ true → IsFilled p k was is olds news → IsFull p k news is
+  full_here olds news was is whole (inl up) =
+      full_kept olds news is (outs_handed olds news was.span.there was.span.into up.bytes up.handed) record {
+        site = up.waits.site;
+        at = ap (λ s. slice_get olds s.here) up.span ∙ up.waits.at;
+        got = up.waits.waits.got;
+        told = ap (λ s. (line_out_at (site_view p k up.waits.site) s.out).got) up.span ∙ up.waits.waits.told;
+        all = up.waits.waits.waits.count;
+      }
+  full_here olds news was is whole (inr left) = absurd (let no_more : true ≡ false = sym whole ∙ left.whole in cc)
+
+  -- for the first so many fibres, where they are whole, nothing waits
+  pub FullBelow : ℕ → List (Site P K) → List Filling → Type 0
+  FullBelow n sites fillings = (m : ℕ) (f : Filling) → m < n → slice_get fillings m ≡ Some f → f.whole ≡ true → IsFull p k sites f
+
+  pub full_more : (olds news : List (Site P K)) (fillings : List Filling) (n : ℕ) (was is : Filling) → slice_get fillings n ≡ Some was
+      → IsFilled p k was is olds news
+      → ((m : ℕ) (f : Filling) → m < n → slice_get fillings m ≡ Some f → f.whole ≡ true → IsFull p k olds f)
+      → (m : ℕ) (f : Filling) → m < n + 1 → slice_get (set fillings n is) m ≡ Some f → f.whole ≡ true → IsFull p k news f
+  full_more olds news fillings n was is at filled before m f less here whole = elim (eqb_tells m n) as (λ t. IsFull p k news f) [
+    | inl t ↦
+        let within = slice_get_within fillings n was at in
+        let e : is ≡ f = same_Some is f (sym (set_here fillings n is within) ∙ ap (slice_get (set fillings n is)) (sym t.1) ∙ here) in
+        subst (IsFull p k news) e (full_here olds news was is (ap (λ (x : Filling). x.whole) e ∙ whole) filled)
+    | inr t ↦ elim (below_or_here m n less) as (λ u. IsFull p k news f) [
+      | inl l ↦ full_kept olds news f (outs_filled olds news was is filled) (before m f l (sym (set_apart fillings n m is t.1) ∙ here) whole)
+      | inr e ↦ absurd (t.1 e)
+    ]
+  ]
+
+  -- ---- a turn
+
+  pub keeps_turn : (olds wrote filled kept news : List (Site P K)) (was is : List Filling) → EachOne (SiteWent p k) olds wrote
+      → KeepsGoing p k wrote was filled is → EachOne (SiteStill p k) filled kept → EachOne (SiteTurned p k) kept news → KeepsGoing p k olds was news is
+  keeps_turn olds wrote filled kept news was is one two three four =
+      keeps_twice olds kept news was is is
+      (keeps_twice olds filled kept was is is
+      (keeps_twice olds wrote filled was was is (keeps_went olds wrote was one) two)
+      (keeps_still filled kept is three))
+      (keeps_turned kept news is four)
+
+  -- how far the node is
+  record SameMoment (old new : Site P K) : Type 0 where
+    turns : new.node.turns ≡ old.node.turns
+    past : new.node.past ≡ old.node.past
+
+  moment_twice : (old mid new : Site P K) → SameMoment old mid → SameMoment mid new → SameMoment old new
+  moment_twice old mid new one two = record { turns = two.turns ∙ one.turns; past = two.past ∙ one.past }
+
+  of_node : (old new : Site P K) → new.node ≡ old.node → SameMoment old new
+  of_node old new e = record { turns = ap (λ (n : NodeView). n.turns) e; past = ap (λ (n : NodeView). n.past) e }
+
+  then_turned : (old mid new : Site P K) → SameMoment old mid → SiteTurned p k mid new → IsTurned old new
+  then_turned old mid new m t = record {
+    turns = t.turned.turns ∙ m.turns;
+    rests = λ over. t.turned.rests (let a = m.turns in let b = m.past in omega arith) ∙ m.past;
+    done = λ going. t.turned.done (let a = m.turns in let b = m.past in omega arith) ∙ ap (λ n. n + 1) m.past;
+  }
+
+  pub each_turned : (olds wrote filled kept news : List (Site P K)) → EachOne (SiteWent p k) olds wrote → EachOne SameNode wrote filled
+      → EachOne (SiteStill p k) filled kept → EachOne (SiteTurned p k) kept news → EachOne IsTurned olds news
+  each_turned olds wrote filled kept news one two three four =
+      each_twice SameMoment (SiteTurned p k) IsTurned olds kept news then_turned
+      (each_twice SameMoment SameMoment SameMoment olds filled kept moment_twice
+      (each_twice SameMoment SameMoment SameMoment olds wrote filled moment_twice
+      (each_as (SiteWent p k) SameMoment olds wrote (λ old new e. record { turns = e.turns; past = e.past }) one)
+      (each_as SameNode SameMoment wrote filled of_node two))
+      (each_as (SiteStill p k) SameMoment filled kept (λ old new e. of_node old new e.node) three))
+      four

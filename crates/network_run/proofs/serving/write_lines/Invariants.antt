@@ -1,0 +1,18 @@
+use Rattle.std.proofs.Common.{◌≡◌, ◌<◌, ℕ, false}
+use Rattle.otn_base.specs.declared.kind.PortName.TheVariants as port
+use Rattle.port_base.specs.Racks.{bays_view}
+use Rattle.node_moments.specs.NodeView.{is_ready}
+use Rattle.node_core.specs.Growing.{OutputsGrow}
+use Rattle.network_core.specs.Turns.{LeadsLater}
+use Rattle.network_run.specs.Serving.{Unasked}
+use Rattle.network_run.proofs.serving.write_lines.Given as goal
+
+abbrev pub invariant-loop-b : goal.invariant-loop-b
+invariant-loop-b g l = record {
+  stands : LeadsLater l.fn.node (bays_view g.P.Source g.K.Sink l.fn.bays) l.node (bays_view g.P.Source g.K.Sink l.bays);
+  turns : l.node.turns ≡ l.fn.node.turns;
+  past : l.node.past ≡ l.fn.node.past;
+  grows : OutputsGrow (bays_view g.P.Source g.K.Sink l.fn.bays) (bays_view g.P.Source g.K.Sink l.bays);
+  unasked : Unasked (bays_view g.P.Source g.K.Sink l.fn.bays) (bays_view g.P.Source g.K.Sink l.bays);
+  all : (m : ℕ) → m < l.b → is_ready l.node (port.LineOut m) ≡ false;
+}

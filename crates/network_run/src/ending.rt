@@ -1,0 +1,36 @@
+// How a run of a network ends.
+ghost use Rattle.std.specs.Prelude.{◌≡◌, ◌≤◌, IfOk};
+ghost use Rattle.device_model.specs.RunNumbers.{numbers_of_run};
+ghost use Rattle.network_run.specs.Ending.{AreSettled, IsSettled};
+ghost use Rattle.network_run.specs.Sites.{AllOver};
+
+use crate::Site;
+use node_core::RunNumbers;
+use otn_base::Memory;
+use port_base::{Sink, Source};
+use std::alloc::Global;
+
+/// Settles all nodes, which are past their last turns, and tells the numbers of each. It answers `Memory` where there
+/// is none for these.
+pub fn settle_all<P: Source, K: Sink>(
+    alloc: Global,
+    sites: &mut Vec<Site<P, K>>,
+) -> Result<Vec<RunNumbers>, Memory>
+    requires over { AllOver sites.old.items }
+    ensures { IfOk result (λ numbers. AreSettled P.Source K.Sink sites.old.items sites.new.items numbers.items) }
+{
+    let mut numbers = Vec::with_capacity(alloc, sites.len())?;
+    for i in 0..sites.len() {
+        let told = settle(&mut sites[i]);
+        numbers.push(told)?;
+    }
+    Ok(numbers)
+}
+
+fn settle<P: Source, K: Sink>(site: &mut Site<P, K>) -> RunNumbers
+    requires over { site.old.node.turns ≤ site.old.node.past }
+    ensures { IsSettled P.Source K.Sink site.old site.new (numbers_of_run result) }
+{
+    let outcome = site.node.settle(&mut site.bays);
+    site.node.numbers(outcome)
+}
