@@ -1,2 +1,6 @@
 pub mod EventPorts
-pub mod Reporting
+pub mod Tallies
+pub mod LineEvents
+pub mod TributaryEvents
+pub mod SlotEvents
+pub mod EventText

@@ -4,7 +4,7 @@ ghost use Rattle.port_base.specs.Bytes.{HasFailed};
 
 use crate::events::Events;
 use arrayvec::ArrayVec;
-use port_base::{Failed, Sink, Written};
+use port_base::{Failed, Sink, Written, write_whole};
 use std::alloc::Global;
 
 // Room for a line of a view.
@@ -12,14 +12,16 @@ const ROOM: usize = 1024;
 
 const LF: u8 = b'\n';
 
-/// Takes the text of a view, and writes the events that its lines bring to another sink. It tells no bytes. A write
-/// takes the bytes up to and with the first LF. It fails where the sink below does in that, and where there is no
-/// memory for a tributary, or a line has more than 1,024 bytes: then its own count rises.
+/// Takes the text of a view, and writes the events that its lines bring to another sink, those of a line by one whole
+/// write. It tells no bytes. A write takes the bytes up to and with the first LF. It fails where the sink below does in
+/// that, and where there is no memory for the events, or a line has more than 1,024 bytes: then its own count rises.
 #[derive(Drop)]
 pub struct EventSink<K> {
     inner: K,
     line: ArrayVec<u8, ROOM>,
     events: Events,
+    /// The events of a line.
+    out: Vec<u8>,
     own: u64,
 }
 
@@ -30,6 +32,7 @@ impl<K> EventSink<K> {
             inner,
             line: ArrayVec::new(),
             events: Events::new(alloc),
+            out: Vec::new(alloc),
             own: 0,
         }
     }
@@ -71,12 +74,15 @@ impl<K: Sink> Sink for EventSink<K> {
         if bytes[n - 1] != LF {
             return Ok(n);
         }
-        let told = self.events.take(self.line.as_slice(), &mut self.inner);
+        self.out.clear();
+        let told = self.events.take_line(self.line.as_slice(), &mut self.out);
         self.line.clear();
-        match told {
-            Ok(Written::Whole) => Ok(n),
-            Ok(Written::Lost) => Err(Failed),
-            Err(_) => self.refuse(),
+        if told.is_err() {
+            return self.refuse();
+        }
+        match write_whole(&mut self.inner, self.out.as_slice()) {
+            Written::Whole => Ok(n),
+            Written::Lost => Err(Failed),
         }
     }
 

@@ -1,116 +1,165 @@
-// What is known of a line and of what is on it, line by line of the view.
-ghost use Rattle.view_events.specs.Reporting.{FailsBy, TellsBy};
+// The events of a line and of what is on it, turn by turn.
+ghost use Rattle.std.specs.Prelude.{◌≡◌, ◌<◌, ◌++◌, ◌∷◌, [], List, IfOk, IfSome, vec_len};
+ghost use Rattle.std.specs.List.{flat_map};
+ghost use Rattle.view_events.specs.declared.said.TurnSaid.{TurnSaid};
+ghost use Rattle.view_events.specs.declared.said.MsiSaid.{MsiSaid};
+ghost use Rattle.view_events.specs.declared.slot_events.TheConstants.{SLOTS};
+ghost use Rattle.view_events.specs.LineEvents.{LineStands};
+ghost use Rattle.view_events.specs.SlotEvents.{SlotStands};
+ghost use Rattle.view_events.specs.EventText.{turn_events_text, msi_events_text, line_sums_text, sums_text};
 
-use crate::line_events::LineEvents;
-use crate::slot_events::{Came, SlotEvents};
-use crate::tributary_events::TributaryEvents;
-use crate::words::{number_of, word_of};
-use arrayvec::ArrayVec;
+use crate::event_text::{put_line_event, put_line_sums, put_msi_event};
+use crate::line_events::{LineTally, error_event, lead_in_event};
+use crate::said::{MsiSaid, TurnSaid};
+use crate::slot_events::SlotTally;
+use crate::tributary::Tributary;
+use crate::view_lines::{
+    is_of_label, label_said, msi_said, right_byte, slots_said, tributary_said, turn_said,
+};
+use crate::words::word_of;
 use otn_base::Memory;
-use port_base::{Sink, Written, write_whole};
-use std::alloc::Global;
+use std::alloc::{AllocError, Global};
 
-/// What was told so far.
+/// What was told so far. Where a call answers that there is no memory, a part of the events may have been appended, and
+/// what it tells from then on is not said.
 #[derive(Drop)]
-pub(crate) struct Events {
+pub struct Events {
     alloc: Global,
-    line: LineEvents,
-    slots: SlotEvents,
-    tributaries: Vec<TributaryEvents>,
-    /// The turn whose lines come, from 1, and the MSI bytes that came in it.
+    /// The line.
+    pub line: LineTally,
+    /// Its slots.
+    pub slots: SlotTally,
+    /// The tributaries that were shown, in the order of their first lines.
+    tributaries: Vec<Tributary>,
+    /// The turn whose lines come, from 1.
     turn: u64,
-    came: Came,
 }
 
 impl Events {
-    /// Before the first line.
-    pub(crate) fn new(alloc: Global) -> Events {
+    /// Before the first turn.
+    pub fn new(alloc: Global) -> Events
+        ensures line { LineStands [] result.line }
+        ensures slots { SlotStands [] result.slots }
+    {
         Events {
             alloc,
-            line: LineEvents::new(),
-            slots: SlotEvents::new(),
+            line: LineTally::new(),
+            slots: SlotTally::new(),
             tributaries: Vec::new(alloc),
             turn: 0,
-            came: ArrayVec::new(),
         }
     }
 
-    /// Takes a line of the view, with its LF, and writes the events that it brings.
-    pub(crate) fn take<K: Sink>(
-        &mut self,
-        with_end: &[u8],
-        report: &mut K,
-    ) -> Result<Written, Memory>
-        ensures { TellsBy result (K.faults report.old) (K.faults report.new) }
+    /// Takes what is said of the line in the next turn, and appends its events: its alignment where that is another,
+    /// frames that were passed over, and frames with errors.
+    pub fn take_turn(&mut self, said: TurnSaid, out: &mut Vec<u8>) -> Result<(), AllocError>
+        ensures told { IfOk result (λ _. (past : List TurnSaid) → LineStands past self.old.line
+            → out.new.items ≡ out.old.items ++ turn_events_text past said) }
+        ensures line { IfOk result (λ _. (past : List TurnSaid) → LineStands past self.old.line
+            → LineStands (said ∷ past) self.new.line) }
+        ensures slots { IfOk result (λ _. self.new.slots ≡ self.old.slots) }
     {
+        let turn = said.number;
+        put_line_event(out, turn, self.line.alignment_event(said.alignment))?;
+        put_line_event(out, turn, lead_in_event(said))?;
+        put_line_event(out, turn, error_event(said))?;
+        self.line.take(said);
+        Ok(())
+    }
+
+    /// Takes an MSI byte of this turn, and appends its event, where it is the first of its slot, or another than the
+    /// last one.
+    pub fn take_msi(&mut self, said: MsiSaid, out: &mut Vec<u8>) -> Result<(), AllocError>
+        requires { said.slot < SLOTS }
+        ensures told { IfOk result (λ _. (past : List MsiSaid) → SlotStands past self.old.slots
+            → out.new.items ≡ out.old.items ++ msi_events_text past said) }
+        ensures slots { IfOk result (λ _. (past : List MsiSaid) → SlotStands past self.old.slots
+            → SlotStands (said ∷ past) self.new.slots) }
+        ensures line { IfOk result (λ _. self.new.line ≡ self.old.line) }
+    {
+        if self.slots.is_event(said) {
+            put_msi_event(out, said)?;
+        }
+        self.slots.take(said);
+        Ok(())
+    }
+
+    /// Takes a line of the view, with its LF, and appends the events that it brings. The first line and the last are
+    /// appended as they stand.
+    pub fn take_line(&mut self, with_end: &[u8], out: &mut Vec<u8>) -> Result<(), Memory> {
         let line = without_end(with_end);
         match word_of(line, 0) {
-            b"line" => Ok(write_whole(report, with_end)),
             b"turn" => {
-                self.turn = number_of(word_of(line, 1));
-                self.came.clear();
-                Ok(self.line.take_turn(self.turn, line, report))
+                self.turn = turn_said(line).number;
+                Ok(self.take_turn(turn_said(line), out)?)
             }
-            b"msi" => Ok(self.take_msi(line, report)),
-            b"tributary" => self.take_tributary(line, report),
-            _ => Ok(self.write_end(with_end, report)),
+            b"msi" => Ok(self.take_msi(msi_said(self.turn, line), out)?),
+            b"tributary" => self.take_tributary(line, out),
+            b"end" => {
+                out.extend_from_slice(with_end)?;
+                Ok(self.put_sums(out)?)
+            }
+            _ => Ok(out.extend_from_slice(with_end)?),
         }
     }
 
-    fn take_msi<K: Sink>(&mut self, line: &[u8], report: &mut K) -> Written
-        ensures { FailsBy result (K.faults report.old) (K.faults report.new) }
-    {
-        self.slots.take_msi(self.turn, line, &mut self.came, report)
-    }
-
-    // Takes the line of a tributary: of one that was shown before, or of a new one. Without memory for that it writes
-    // nothing.
-    fn take_tributary<K: Sink>(&mut self, line: &[u8], report: &mut K) -> Result<Written, Memory>
-        ensures { TellsBy result (K.faults report.old) (K.faults report.new) }
-    {
-        let turn = self.turn;
-        if !self.knows(turn, line) {
-            self.tributaries
-                .push(TributaryEvents::new(self.alloc, turn, line)?)?;
+    // Takes the line of a tributary: of one that was shown before, or of a new one.
+    fn take_tributary(&mut self, line: &[u8], out: &mut Vec<u8>) -> Result<(), Memory> {
+        match self.place_of(line) {
+            Some(i) => Ok(self.tell_known(i, line, out)?),
+            None => self.tell_new(line, out),
         }
-        Ok(self.tell_tributary(turn, line, report))
     }
 
-    // Whether the line is of a tributary that was shown before, and of which no line of this turn was yet.
-    fn knows(&self, turn: u64, line: &[u8]) -> bool {
-        self.tributaries.iter().any(|one| one.is_of(turn, line))
-    }
-
-    // Takes the line of the first tributary that it is of.
-    fn tell_tributary<K: Sink>(&mut self, turn: u64, line: &[u8], report: &mut K) -> Written
-        ensures { FailsBy result (K.faults report.old) (K.faults report.new) }
+    // The first tributary that the line is of, and of which no line of this turn was yet.
+    fn place_of(&self, line: &[u8]) -> Option<usize>
+        ensures { IfSome result (λ i. i < vec_len self.now.tributaries) }
     {
-        let whole = self.line.is_whole();
-        for one in self.tributaries.iter_mut() {
-            if one.is_of(turn, line) {
-                return one.take_turn(turn, line, whole, &self.came, report);
+        for i in 0..self.tributaries.len() {
+            let one = &self.tributaries[i];
+            if one.tally.last != self.turn && is_of_label(line, one.label.as_slice()) {
+                return Some(i);
             }
         }
-        Written::Whole
+        None
     }
 
-    // Writes the last line, and the sums of the line and of each tributary.
-    fn write_end<K: Sink>(&self, with_end: &[u8], report: &mut K) -> Written
-        ensures { FailsBy result (K.faults report.old) (K.faults report.new) }
+    // Tells of a tributary that was shown before.
+    fn tell_known(&mut self, i: usize, line: &[u8], out: &mut Vec<u8>) -> Result<(), AllocError>
+        requires { i < vec_len self.old.tributaries }
     {
-        if write_whole(report, with_end) == Written::Lost {
-            return Written::Lost;
-        }
-        if self.line.write_sums(report) == Written::Lost {
-            return Written::Lost;
-        }
-        for one in &self.tributaries {
-            if one.write_sums(report) == Written::Lost {
-                return Written::Lost;
-            }
-        }
-        Written::Whole
+        let said = tributary_said(self.turn, line);
+        let slots = slots_said(line);
+        let right = right_byte(line);
+        self.tributaries[i].tell(said, slots.as_slice(), right, &self.line, &self.slots, out)
     }
+
+    // Tells of a new one.
+    fn tell_new(&mut self, line: &[u8], out: &mut Vec<u8>) -> Result<(), Memory> {
+        let said = tributary_said(self.turn, line);
+        let label = label_said(self.alloc, line)?;
+        let one = Tributary::first_told(label, said, self.line.is_whole(), out)?;
+        Ok(self.tributaries.push(one)?)
+    }
+
+    /// Appends the sums of the line, and of each tributary.
+    pub fn put_sums(&self, out: &mut Vec<u8>) -> Result<(), AllocError>
+        ensures { IfOk result (λ _. out.new.items ≡ out.old.items
+            ++ (line_sums_text self.now.line ++ flat_map sums_text self.now.tributaries.items)) }
+    {
+        put_line_sums(out, &self.line)?;
+        put_each(self.tributaries.as_slice(), out)
+    }
+}
+
+// Appends the sums of each tributary.
+fn put_each(tributaries: &[Tributary], out: &mut Vec<u8>) -> Result<(), AllocError>
+    ensures { IfOk result (λ _. out.new.items ≡ out.old.items ++ flat_map sums_text tributaries.now) }
+{
+    for one in tributaries {
+        one.put_sums(out)?;
+    }
+    Ok(())
 }
 
 // A line without its LF.

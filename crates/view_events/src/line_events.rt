@@ -1,42 +1,55 @@
-// The events of a line, and what is told of it in the end.
-ghost use Rattle.view_events.specs.Reporting.{FailsBy};
+// The events of a line, and the sums of all its turns.
+ghost use Rattle.std.specs.Prelude.{◌≡◌, [], ◌∷◌, List};
+ghost use Rattle.view_events.specs.declared.said.TurnSaid.{TurnSaid};
+ghost use Rattle.view_events.specs.LineEvents.{LineStands, alignment_event, alignment_told, lead_in_event, error_event, is_whole};
 
-use crate::event_text::EventText;
-use crate::words::{number_of, word_of};
-use port_base::{Sink, Written};
+use crate::said::{Alignment, TurnSaid};
+use crate::tally::{added, counted, run_on};
 
-/// How a turn is aligned.
+/// What changes of a line in a turn.
 #[derive(Clone, Copy, Debug, PartialEq, Eq)]
-pub(crate) enum Alignment {
-    /// It has its multiframe.
-    Whole,
+pub enum LineEvent {
+    /// The turn has its multiframe, after so many turns without one.
+    Found(u64),
     /// It lost the multiframe.
     Lost,
     /// No multiframe was found.
-    Hunting,
+    NotFound,
     /// The line ended.
     Ended,
+    /// So many frames were passed over in search of a multiframe.
+    PassedOver(u64),
+    /// So many used frames have a wrong FAS, a wrong SM parity, a wrong PM parity.
+    Errors(u64, u64, u64),
 }
 
-/// What was told of a line so far.
+/// What was said of a line in the turns so far. Its numbers stop at the end of 64 bits.
 #[derive(Clone, Copy, Debug, PartialEq, Eq)]
-pub(crate) struct LineEvents {
+pub struct LineTally {
     /// How the last turn was aligned; none before the first one.
-    last: Option<Alignment>,
+    pub last: Option<Alignment>,
     /// Turns without a multiframe just before.
-    without: u64,
-    whole: u64,
-    lost: u64,
-    hunting: u64,
-    fas: u64,
-    sm: u64,
-    pm: u64,
+    pub without: u64,
+    /// Turns with a multiframe.
+    pub whole: u64,
+    /// Turns that lost it.
+    pub lost: u64,
+    /// Turns in which none was found.
+    pub hunting: u64,
+    /// Used frames with a wrong FAS.
+    pub fas: u64,
+    /// Used frames with a wrong SM parity.
+    pub sm: u64,
+    /// Used frames with a wrong PM parity.
+    pub pm: u64,
 }
 
-impl LineEvents {
-    /// Of a line of which nothing was told.
-    pub(crate) fn new() -> LineEvents {
-        LineEvents {
+impl LineTally {
+    /// Of a line of which nothing was said.
+    pub fn new() -> LineTally
+        ensures { LineStands [] result }
+    {
+        LineTally {
             last: None,
             without: 0,
             whole: 0,
@@ -48,129 +61,67 @@ impl LineEvents {
         }
     }
 
+    /// Takes what is said of the next turn.
+    pub fn take(&mut self, said: TurnSaid)
+        ensures { (past : List TurnSaid) → LineStands past self.old → LineStands (said ∷ past) self.new }
+    {
+        self.last = Some(said.alignment);
+        self.without = run_on(self.without, !said.alignment.is_whole());
+        self.whole = counted(self.whole, said.alignment.is_whole());
+        self.lost = counted(self.lost, said.alignment.is_lost());
+        self.hunting = counted(self.hunting, said.alignment.is_hunting());
+        self.fas = added(self.fas, said.fas);
+        self.sm = added(self.sm, said.sm);
+        self.pm = added(self.pm, said.pm);
+    }
+
     /// Whether the last turn has its multiframe.
-    pub(crate) fn is_whole(&self) -> bool {
+    pub fn is_whole(&self) -> bool
+        ensures { (turn : TurnSaid) (past : List TurnSaid) → LineStands (turn ∷ past) self.now
+            → result ≡ is_whole turn.alignment }
+    {
         self.last == Some(Alignment::Whole)
     }
 
-    /// Takes the line of a turn, and writes its events: its alignment where that is another, frames that were passed
-    /// over, and frames with errors.
-    pub(crate) fn take_turn<K: Sink>(&mut self, turn: u64, line: &[u8], report: &mut K) -> Written
-        ensures { FailsBy result (K.faults report.old) (K.faults report.new) }
+    /// The alignment of the next turn, where that is an event.
+    pub fn alignment_event(&self, alignment: Alignment) -> Option<LineEvent>
+        ensures { (past : List TurnSaid) → LineStands past self.now → result ≡ alignment_event past alignment }
     {
-        let alignment = alignment_of(word_of(line, 2));
-        if self.is_told(alignment)
-            && self.write_alignment(turn, alignment, report) == Written::Lost
-        {
-            return Written::Lost;
+        if self.last == Some(alignment) && !alignment.is_lost() {
+            return None;
         }
-        self.count(alignment);
-        if write_lead_in(turn, word_of(line, 6), report) == Written::Lost {
-            return Written::Lost;
-        }
-        self.take_errors(turn, line, report)
+        Some(self.told(alignment))
     }
 
-    // Whether the alignment of the next turn is an event.
-    fn is_told(&self, alignment: Alignment) -> bool {
-        alignment == Alignment::Lost || self.last != Some(alignment)
-    }
-
-    // Writes it.
-    fn write_alignment<K: Sink>(&self, turn: u64, alignment: Alignment, report: &mut K) -> Written
-        ensures { FailsBy result (K.faults report.old) (K.faults report.new) }
+    // The event of a turn that is aligned so.
+    fn told(&self, alignment: Alignment) -> LineEvent
+        ensures { (past : List TurnSaid) → LineStands past self.now → result ≡ alignment_told past alignment }
     {
-        let mut text = turn_text(turn, b" line ");
         match alignment {
-            Alignment::Whole => {
-                text.put_number(b"whole after ", self.without);
-                text.put(b" turns");
-            }
-            Alignment::Lost => text.put(b"lost multiframe"),
-            Alignment::Hunting => text.put(b"no multiframe"),
-            Alignment::Ended => text.put(b"end"),
+            Alignment::Whole => LineEvent::Found(self.without),
+            Alignment::Lost => LineEvent::Lost,
+            Alignment::Hunting => LineEvent::NotFound,
+            Alignment::Ended => LineEvent::Ended,
         }
-        text.write(report)
-    }
-
-    // Counts a turn that is aligned so.
-    fn count(&mut self, alignment: Alignment) {
-        self.last = Some(alignment);
-        self.without = self.without.saturating_add(1);
-        match alignment {
-            Alignment::Whole => {
-                self.without = 0;
-                self.whole = self.whole.saturating_add(1);
-            }
-            Alignment::Lost => self.lost = self.lost.saturating_add(1),
-            Alignment::Hunting => self.hunting = self.hunting.saturating_add(1),
-            Alignment::Ended => {}
-        }
-    }
-
-    // Counts the frames with errors, and writes how many a turn has, where it has some.
-    fn take_errors<K: Sink>(&mut self, turn: u64, line: &[u8], report: &mut K) -> Written
-        ensures { FailsBy result (K.faults report.old) (K.faults report.new) }
-    {
-        let fas = number_of(word_of(line, 8));
-        let sm = number_of(word_of(line, 10));
-        let pm = number_of(word_of(line, 12));
-        self.fas = self.fas.saturating_add(fas);
-        self.sm = self.sm.saturating_add(sm);
-        self.pm = self.pm.saturating_add(pm);
-        if fas == 0 && sm == 0 && pm == 0 {
-            return Written::Whole;
-        }
-        let mut text = turn_text(turn, b" line");
-        put_errors(&mut text, fas, sm, pm);
-        text.write(report)
-    }
-
-    /// Writes the sums.
-    pub(crate) fn write_sums<K: Sink>(&self, report: &mut K) -> Written
-        ensures { FailsBy result (K.faults report.old) (K.faults report.new) }
-    {
-        let mut text = EventText::new();
-        text.put_number(b"end line whole ", self.whole);
-        text.put_number(b" lost ", self.lost);
-        text.put_number(b" none ", self.hunting);
-        put_errors(&mut text, self.fas, self.sm, self.pm);
-        text.write(report)
     }
 }
 
-/// The beginning of an event of this turn.
-pub(crate) fn turn_text(turn: u64, behind: &[u8]) -> EventText {
-    let mut text = EventText::new();
-    text.put_number(b"turn ", turn);
-    text.put(behind);
-    text
-}
-
-fn put_errors(text: &mut EventText, fas: u64, sm: u64, pm: u64) {
-    text.put_number(b" fas ", fas);
-    text.put_number(b" sm ", sm);
-    text.put_number(b" pm ", pm);
-}
-
-// Frames that were passed over, where there are some.
-fn write_lead_in<K: Sink>(turn: u64, frames: &[u8], report: &mut K) -> Written
-    ensures { FailsBy result (K.faults report.old) (K.faults report.new) }
+/// Frames that were passed over in a turn, where that is an event.
+pub fn lead_in_event(said: TurnSaid) -> Option<LineEvent>
+    ensures { result ≡ lead_in_event said }
 {
-    if frames == b"0".as_slice() {
-        return Written::Whole;
+    if said.lead_in == 0 {
+        return None;
     }
-    let mut text = turn_text(turn, b" line passed over ");
-    text.put(frames);
-    text.put(b" frames");
-    text.write(report)
+    Some(LineEvent::PassedOver(said.lead_in))
 }
 
-fn alignment_of(word: &[u8]) -> Alignment {
-    match word {
-        b"whole" => Alignment::Whole,
-        b"lost" => Alignment::Lost,
-        b"none" => Alignment::Hunting,
-        _ => Alignment::Ended,
+/// Frames of a turn with errors, where that is an event.
+pub fn error_event(said: TurnSaid) -> Option<LineEvent>
+    ensures { result ≡ error_event said }
+{
+    if said.fas == 0 && said.sm == 0 && said.pm == 0 {
+        return None;
     }
+    Some(LineEvent::Errors(said.fas, said.sm, said.pm))
 }

@@ -1,91 +1,98 @@
-// The events of the slots of a line.
-ghost use Rattle.view_events.specs.Reporting.{FailsBy};
-ghost use Rattle.std.specs.Prelude.{◌<◌};
+// The MSI bytes of the slots of a line, and their events.
+ghost use Rattle.std.specs.Prelude.{◌≡◌, ◌<◌, ℕ, [], ◌∷◌, List, All};
+ghost use Rattle.std.specs.List.{find};
+ghost use Rattle.view_events.specs.declared.said.MsiSaid.{MsiSaid};
+ghost use Rattle.view_events.specs.SlotEvents.{SlotStands, is_msi_event, msi_bytes, is_wrong_one, is_wrong_twice};
 
-use crate::event_text::EventText;
-use crate::line_events::turn_text;
-use crate::words::{byte_of, number_of, word_of};
-use arrayvec::ArrayVec;
+use crate::said::MsiSaid;
 use otn_base::limits::MOST_SLOTS;
-use port_base::{Sink, Written};
 
-// Slots are numbered from 1.
-const SLOTS: usize = MOST_SLOTS + 1;
+/// Slots are numbered from 1, and this is the last number and 1.
+pub const SLOTS: usize = MOST_SLOTS + 1;
 
-// The MSI byte of a free slot, and that of port 1.
-const FREE: u8 = 0xC0;
+/// The last MSI byte that came of a slot, and the one before it.
+#[derive(Clone, Copy, Debug, PartialEq, Eq)]
+pub struct SlotSeen {
+    /// The last one.
+    pub last: Option<MsiSaid>,
+    /// The one before it.
+    pub before: Option<MsiSaid>,
+}
 
-const FIRST_PORT: u8 = 0x80;
-
-/// The MSI bytes of a turn, each with its slot.
-pub(crate) type Came = ArrayVec<(u8, u8), MOST_SLOTS>;
-
-/// What was told of the slots so far.
+/// The last two MSI bytes that came of each slot.
 #[derive(Clone, Copy)]
-pub(crate) struct SlotEvents {
-    // The last MSI byte that came of each slot.
-    last: [Option<u8>; SLOTS],
+pub struct SlotTally {
+    /// By the slot's number.
+    pub slots: [SlotSeen; SLOTS],
 }
 
-impl SlotEvents {
-    /// Of a line of which nothing was told.
-    pub(crate) fn new() -> SlotEvents {
-        SlotEvents {
-            last: [None; SLOTS],
-        }
-    }
-
-    /// Takes the line of an MSI byte of this turn, notes it, and writes it where it is the slot's first, or another
-    /// than its last.
-    pub(crate) fn take_msi<K: Sink>(
-        &mut self,
-        turn: u64,
-        line: &[u8],
-        came: &mut Came,
-        report: &mut K,
-    ) -> Written
-        ensures { FailsBy result (K.faults report.old) (K.faults report.new) }
+impl SlotTally {
+    /// Of a line of which nothing was said.
+    pub fn new() -> SlotTally
+        ensures { SlotStands [] result }
     {
-        let slot = number_of(word_of(line, 1)).min(255) as u8;
-        let byte = byte_of(word_of(line, 2));
-        let _ = came.try_push((slot, byte));
-        if !self.is_new(slot, byte) {
-            return Written::Whole;
+        SlotTally {
+            slots: [SlotSeen {
+                last: None,
+                before: None,
+            }; SLOTS],
         }
-        msi_text(turn, word_of(line, 1), byte).write(report)
     }
 
-    // Notes the last byte of a slot, and says whether it is another than the one before.
-    fn is_new(&mut self, slot: u8, byte: u8) -> bool {
-        match self.last.get_mut(slot as usize) {
-            Some(last) if *last != Some(byte) => {
-                *last = Some(byte);
-                true
+    /// Takes an MSI byte.
+    pub fn take(&mut self, said: MsiSaid)
+        requires { said.slot < SLOTS }
+        ensures { (past : List MsiSaid) → SlotStands past self.old → SlotStands (said ∷ past) self.new }
+    {
+        let slot = said.slot as usize;
+        self.slots[slot] = SlotSeen {
+            last: Some(said),
+            before: self.slots[slot].last,
+        };
+    }
+
+    /// Whether an MSI byte is an event: the first of its slot, or another than the last one.
+    pub fn is_event(&self, said: MsiSaid) -> bool
+        requires { said.slot < SLOTS }
+        ensures { (past : List MsiSaid) → SlotStands past self.now → result ≡ is_msi_event past said }
+    {
+        match self.slots[said.slot as usize].last {
+            Some(last) => last.byte != said.byte,
+            None => true,
+        }
+    }
+
+    /// The first of these slots whose last two MSI bytes came since this turn, and were not this one.
+    pub fn marked(&self, slots: &[u8], first: u64, right: u8) -> Option<u8>
+        requires { All (λ slot. slot < SLOTS) slots.now }
+        ensures { (past : List MsiSaid) → SlotStands past self.now
+            → result ≡ find (λ slot. is_wrong_twice (msi_bytes slot past) first right) slots.now }
+    {
+        for slot in slots {
+            if self.is_wrong_twice(*slot, first, right) {
+                return Some(*slot);
             }
-            Some(_) => false,
-            None => false,
         }
+        None
+    }
+
+    // Whether the last two MSI bytes of a slot came since this turn, and were not this one.
+    fn is_wrong_twice(&self, slot: u8, first: u64, right: u8) -> bool
+        requires { slot < SLOTS }
+        ensures { (past : List MsiSaid) → SlotStands past self.now
+            → result ≡ is_wrong_twice (msi_bytes slot past) first right }
+    {
+        let seen = self.slots[slot as usize];
+        is_wrong(seen.last, first, right) && is_wrong(seen.before, first, right)
     }
 }
 
-// What an MSI byte says.
-fn msi_text(turn: u64, slot: &[u8], byte: u8) -> EventText {
-    let mut text = turn_text(turn, b"");
-    if byte == FREE {
-        text.put(b" no port");
-    } else if byte < FIRST_PORT || byte > FREE {
-        text.put(b" msi ");
-        text.put(&[hex_digit(byte >> 4), hex_digit(byte & 15)]);
-    } else {
-        text.put_number(b" port ", (byte - FIRST_PORT) as u64 + 1);
-    }
-    text.put(b" in slot ");
-    text.put(slot);
-    text
-}
-
-fn hex_digit(n: u8) -> u8
-    requires { n < 16 }
+// Whether an MSI byte came since this turn, and was not this one.
+fn is_wrong(said: Option<MsiSaid>, first: u64, right: u8) -> bool
+    ensures { result ≡ is_wrong_one said first right }
 {
-    if n < 10 { b'0' + n } else { b'a' + (n - 10) }
+    match said {
+        Some(said) => said.turn >= first && said.byte != right,
+        None => false,
+    }
 }
