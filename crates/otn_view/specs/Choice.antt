@@ -1,5 +1,11 @@
--- API: the word behind all others, by which the events of a view are asked for.
+-- API: the words by which the page is asked for, and the word behind all others by which the events of a view are.
 use Rattle.std.specs.Prelude.{◌≡◌, List, [], ◌∷◌, ◌++◌, ℕ, Bool, true, false, codes}
+
+-- no word at all, or this one alone
+abbrev pub AsksForPage : List (List ℕ) → Type 0
+AsksForPage [] = Unit {0}
+AsksForPage (word ∷ []) = word ≡ codes "--help"
+AsksForPage (word ∷ other ∷ rest) = ⊥
 
 -- these are the words in front of it, where it is the last one; else it is not, and these are all words
 abbrev pub SplitsOff : (words front : List (List ℕ)) → Bool → Type 0

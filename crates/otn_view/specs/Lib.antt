@@ -2,3 +2,4 @@ pub mod Words
 pub mod Answers
 pub mod Choice
 pub mod Opened
+pub mod Outcomes
