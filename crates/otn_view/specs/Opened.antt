@@ -21,8 +21,8 @@ abbrev pub IsSomeLive : (has_file : Bool) → Option (InPlaceOf (ReaderSource Fi
 IsSomeLive has_file None = ⊥
 IsSomeLive has_file (Some place) = IsLive has_file place
 
--- What the place becomes by the system's answer to the opening of the file: there is none where the answer is that there
--- is no such file, and for no other error.
+-- What the place becomes by the system's answer to the opening of the file: there is none where the answer is that
+-- there is no such file, and for no other error.
 abbrev pub IsLineOf : Result File Error → Option (InPlaceOf (ReaderSource File)) → Type 0
 IsLineOf (Ok file) place = IsSomeLive true place
 IsLineOf (Err error) place = (error_kind error ≡ NotFound → place ≡ None)

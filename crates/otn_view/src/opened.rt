@@ -15,8 +15,8 @@ pub(crate) fn plan_name() -> &'static str
     "plan.toml"
 }
 
-/// The place of a line by the answer to the opening of its file: none where there is no such file. Else it is live. Of a
-/// file that is there and cannot be opened the first read fails, so that the line is no empty one.
+/// The place of a line by the answer to the opening of its file: none where there is no such file. Else it is live. Of
+/// a file that is there and cannot be opened the first read fails, so that the line is no empty one.
 pub(crate) fn line_of(alloc: Global, answer: io::Result<File>) -> Option<InPlaceOf<FileSource>>
     ensures { IsLineOf answer result }
 {
