@@ -12,7 +12,7 @@ use Rattle.network_file.specs.declared.place.Place.{Place}
 use Rattle.network_file.specs.Answer.{accepted_or, meaning_in, meaning_of, network_of_text}
 use Rattle.network_file.specs.Outline.{file_of}
 use Rattle.network_file.specs.Places.{first_broken}
-use Rattle.network_file.specs.Refusal.{refusal_in, refusal_of, table_place, table_rules, table_refusal, value_refusal}
+use Rattle.network_file.specs.Refusal.{refusal_in, refusal_of, table_place, table_rules, refusal_of_table, value_refusal}
 use Rattle.network_file.specs.Sound.{IsSound}
 use Rattle.network_file.specs.Table.{outline_at}
 use Rattle.network_file.proofs.Sounds.{file_sound}
@@ -34,8 +34,8 @@ later_none None other e = e
 later_none (Some broken) other e = cc
 
 pub accepted_is_sound : (top : Members) (answer : Result NetworkFile NoNetwork)
-    → (answer ≢ Err Memory → answer ≡ accepted_or (file_of (outline_at top)) (table_refusal top)) → IfOk answer IsSound
+    → (answer ≢ Err Memory → answer ≡ accepted_or (file_of (outline_at top)) (refusal_of_table top)) → IfOk answer IsSound
 accepted_is_sound top (Ok file) h =
-    let (none, same) = accepted_none file (file_of (outline_at top)) (table_refusal top) (h (λ bad. cc)) in
+    let (none, same) = accepted_none file (file_of (outline_at top)) (refusal_of_table top) (h (λ bad. cc)) in
     rw same (file_sound (outline_at top) (later_none (first_broken (table_place top) table_rules) (value_refusal (outline_at top)) none))
 accepted_is_sound top (Err refused) h = tt

@@ -1,5 +1,5 @@
--- Believed: a network's file as its rules see it: nodes, and fibres between nodes that are named, each number as wide as
--- a text can write it; and the file that it is.
+-- Believed: a network's file as its rules see it: nodes, and fibres between nodes that are named, each number as wide
+-- as a text can write it; and the file that it is.
 use Rattle.std.specs.Prelude.{ℕ, ◌+◌, ℤ, List, [], ◌∷◌, map, if◌then◌else◌}
 use Rattle.std.specs.Str.{bytes_eq}
 use Rattle.plan_file.specs.Entry.{natural}

@@ -70,13 +70,13 @@ value_refusal o = first_broken (value_place o) value_rules
 -- ---- the text
 
 -- the first rule that the table breaks
-abbrev pub table_refusal : Members → Option (NetworkError × Place)
-table_refusal top = option_or (first_broken (table_place top) table_rules) (value_refusal (outline_at top))
+abbrev pub refusal_of_table : Members → Option (NetworkError × Place)
+refusal_of_table top = option_or (first_broken (table_place top) table_rules) (value_refusal (outline_at top))
 
 -- the same of the table of a text; where the text has none it is not TOML
 abbrev pub refusal_in : Option Members → Option (NetworkError × Place)
 refusal_in None = Some (NotToml, Top)
-refusal_in (Some top) = table_refusal top
+refusal_in (Some top) = refusal_of_table top
 
 -- the first rule that a text breaks, and its first place
 unfoldable pub refusal_of : List ℕ → Option (NetworkError × Place)

@@ -18,9 +18,9 @@ pub struct NetworkFile {
 }
 
 impl NetworkFile {
-    /// The file that the text says (TOML of at most 1,048,576 bytes), or the first of the first ten rules that it breaks,
-    /// at its first place. An accepted file has 1 to 1,024 nodes, no two of one name, and at most 4,096 fibres, each from
-    /// a line of one of them to a line of one, no two to one line input.
+    /// The file that the text says (TOML of at most 1,048,576 bytes), or the first of the first ten rules that it
+    /// breaks, at its first place. An accepted file has 1 to 1,024 nodes, no two of one name. It has at most 4,096
+    /// fibres, each from a line of one of them to a line of one, no two to one line input.
     pub fn read(alloc: Global, text: &[u8]) -> Result<NetworkFile, NoNetwork>
         ensures file { result ≢ Err NoNetwork.Memory → result ≡ network_of_text text.now }
         ensures sound { IfOk result IsSound }

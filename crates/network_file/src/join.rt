@@ -15,9 +15,9 @@ use otn_base::{LineKind, PortName};
 use plan_file::Plan;
 use turn_pieces::{has_number, kind_by, uses};
 
-/// The first of the last two rules that is broken, at its first place: a plan is refused, or the ends of a fibre, both in
-/// use, are of two forms. The plans are those of the nodes, in the order of the file. None exactly where an accepted file
-/// with these plans is a network.
+/// The first of the last two rules that is broken, at its first place: a plan is refused, or the ends of a fibre, both
+/// in use, are of two forms. The plans are those of the nodes, in the order of the file. None exactly where an accepted
+/// file with these plans is a network.
 pub fn fault(file: &NetworkFile, plans: &[Plan]) -> Option<(NetworkError, Place)>
     ensures first { result ≡ joining_fault file.now plans.now }
     ensures network { IsSound file.now → length plans.now ≡ length file.now.nodes

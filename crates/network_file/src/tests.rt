@@ -1,5 +1,5 @@
-// Texts that a person might write, with what is said of each: the rule that is broken first, by its number, and its first
-// place, or how many nodes and fibres there are.
+// Texts that a person might write, with what is said of each: the rule that is broken first, by its number, and its
+// first place, or how many nodes and fibres there are.
 use crate::{NetworkError, NetworkFile, NoNetwork, Place, fault};
 use plan_file::{Connections, LineList, NoPlan, Plan};
 use std::alloc::{AllocError, Global};
@@ -36,8 +36,8 @@ const FILES: &str = r#"
 nodes 2 fibres 2 | node = [{ name = "a" }, { name = "b" }] | [{ from = { node = "a", line = 0 }, to = { node = "b", line = 0 } }, { from = { node = "b", line = 0 }, to = { node = "a", line = 0 } }]
 "#;
 
-// Of two nodes with a fibre from line 0 of the first to line 1 of the second: what is wanted, the top of the plan of the
-// first, the connections of the second, and the top of its plan.
+// Of two nodes with a fibre from line 0 of the first to line 1 of the second: what is wanted, the top of the first
+// plan, where the connection of the second comes from, and the top of the second.
 const PLANS: &str = r#"
 accepted | otu3-in = [] | { line = 1, port = 1, slots = [3] } | otu3-out = []
 12 at fibre 1 | scrambled-out = [0] | { line = 1, port = 1, slots = [3] } | otu3-out = []

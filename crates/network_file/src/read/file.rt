@@ -3,7 +3,7 @@ ghost use Rattle.std.specs.Prelude.{◌≡◌, ◌≢◌, Err, None, Ok};
 ghost use Rattle.toml.specs.View.{table_view};
 ghost use Rattle.network_file.specs.Answer.{accepted_or};
 ghost use Rattle.network_file.specs.Outline.{file_of};
-ghost use Rattle.network_file.specs.Refusal.{table_refusal, value_refusal};
+ghost use Rattle.network_file.specs.Refusal.{refusal_of_table, value_refusal};
 ghost use Rattle.network_file.specs.Table.{outline_at};
 
 use crate::error::NoNetwork;
@@ -19,7 +19,7 @@ use toml::Table;
 /// The file that the table says, or the first rule that it breaks.
 pub(crate) fn file(alloc: Global, top: &Table) -> Result<NetworkFile, NoNetwork>
     ensures { result ≢ Err NoNetwork.Memory → result
-        ≡ accepted_or (file_of (outline_at (table_view top.now))) (table_refusal (table_view top.now)) }
+        ≡ accepted_or (file_of (outline_at (table_view top.now))) (refusal_of_table (table_view top.now)) }
 {
     match table_fault(top) {
         Some((rule, place)) => Err(NoNetwork::Refused(rule, place)),

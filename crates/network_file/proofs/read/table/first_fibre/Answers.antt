@@ -10,10 +10,12 @@ pub returns-then-breaks_fibre : goal.returns-then-breaks_fibre
 returns-then-breaks_fibre c =
     let known = slice_get_known view c.args.fibres.now c.loop-i.i c.item.result.now c.item.ensures in
     sym (ap first c.loop-i.invariant
-    ∙ places_stop (breaks_fibre c.args.rule) (c.loop-i.i + 1) (map view c.args.fibres.now) c.loop-i.i (view c.item.result.now) known (sym c.if-breaks_fibre.ensures))
+    ∙ places_stop (breaks_fibre c.args.rule) (c.loop-i.i + 1) (map view c.args.fibres.now) c.loop-i.i (view c.item.result.now) known
+    (sym c.if-breaks_fibre.ensures))
 
 pub loop-i-preserved : goal.loop-i-preserved
 loop-i-preserved c =
     let known = slice_get_known view c.args.fibres.now c.loop-i.i c.item.result.now c.item.ensures in
     c.loop-i.invariant
-    ∙ places_go (breaks_fibre c.args.rule) (c.loop-i.i + 1) (map view c.args.fibres.now) c.loop-i.i (view c.item.result.now) known (sym c.if-breaks_fibre.ensures)
+    ∙ places_go (breaks_fibre c.args.rule) (c.loop-i.i + 1) (map view c.args.fibres.now) c.loop-i.i (view c.item.result.now) known
+    (sym c.if-breaks_fibre.ensures)

@@ -10,10 +10,12 @@ pub returns-then-breaks_node : goal.returns-then-breaks_node
 returns-then-breaks_node c =
     let known = slice_get_known view c.args.nodes.now c.loop-i.i c.item.result.now c.item.ensures in
     sym (ap first c.loop-i.invariant
-    ∙ places_stop (breaks_node c.args.rule) (c.loop-i.i + 1) (map view c.args.nodes.now) c.loop-i.i (view c.item.result.now) known (sym c.if-breaks_node.ensures))
+    ∙ places_stop (breaks_node c.args.rule) (c.loop-i.i + 1) (map view c.args.nodes.now) c.loop-i.i (view c.item.result.now) known
+    (sym c.if-breaks_node.ensures))
 
 pub loop-i-preserved : goal.loop-i-preserved
 loop-i-preserved c =
     let known = slice_get_known view c.args.nodes.now c.loop-i.i c.item.result.now c.item.ensures in
     c.loop-i.invariant
-    ∙ places_go (breaks_node c.args.rule) (c.loop-i.i + 1) (map view c.args.nodes.now) c.loop-i.i (view c.item.result.now) known (sym c.if-breaks_node.ensures)
+    ∙ places_go (breaks_node c.args.rule) (c.loop-i.i + 1) (map view c.args.nodes.now) c.loop-i.i (view c.item.result.now) known
+    (sym c.if-breaks_node.ensures)
