@@ -46,8 +46,8 @@ below_or_here zero (suc i) less = inl (omega arith)
 below_or_here (suc k) zero less = absurd (omega arith)
 below_or_here (suc k) (suc i) less = elim (below_or_here k i (omega arith)) [ inl l ↦ inl (omega arith) | inr e ↦ inr (ap suc e) ]
 
-pub one_gone : {A : Type 0} (Goes : A → A → Type 0) (i : ℕ) (olds news : List A) (d one : A) → i < length olds → Gone Goes i olds news → Goes (get_or news i d) one
-    → Gone Goes (i + 1) olds (set news i one)
+pub one_gone : {A : Type 0} (Goes : A → A → Type 0) (i : ℕ) (olds news : List A) (d one : A) → i < length olds → Gone Goes i olds news
+    → Goes (get_or news i d) one → Gone Goes (i + 1) olds (set news i one)
 one_gone Goes i olds news d one less h goes = record {
   count = length-set news i one ∙ h.count;
   past = λ k old new lt at_old at_new. elim (below_or_here k i lt) [

@@ -154,11 +154,13 @@ module _ {P K : Type 0} (p : source.Ghosts P) (k : sink.Ghosts K) (network : Net
             let e = ended_at i plan.0 plan.1 in
             subst (OpensWithMore network i (first i)) (sym (ap (λ (q : Run). q.before) (is i) ∙ e.before)) (went.going.opened i less));
         after = λ i new here. (
-            let less : i < length network.plans = (let within = slice_get_within news i new here in let count = went.going.count in let same = settled.count in omega arith) in
+            let within = slice_get_within news i new here in
+            let less : i < length network.plans = (let count = went.going.count in let same = settled.count in omega arith) in
             let plan = plan_at i less in
             ap (λ (q : Run). q.after) (is i) ∙ ap (λ (q : Run). q.after) (run_here i plan.0 new plan.1 here) ∙ after_of plan.0 new (states i));
         left = λ i n here. (
-            let less : i < length network.plans = (let within = slice_get_within numbers i n here in let count = went.going.count in let same = settled.told in omega arith) in
+            let within = slice_get_within numbers i n here in
+            let less : i < length network.plans = (let count = went.going.count in let same = settled.told in omega arith) in
             let plan = plan_at i less in
             let e = ended_at i plan.0 plan.1 in
             let same : e.n ≡ n = same_Some e.n n (sym e.at ∙ here) in (
@@ -174,4 +176,5 @@ module _ {P K : Type 0} (p : source.Ghosts P) (k : sink.Ghosts K) (network : Net
       after_of plan site state = refl
 
 pub ends_well : {P K : Type 0} (p : source.Ghosts P) (k : sink.Ghosts K) → EndsWell p k
-ends_well p k network first olds news numbers fillings net some went settled full = has_run p k network first olds news numbers fillings net some went settled full
+ends_well p k network first olds news numbers fillings net some went settled full =
+    has_run p k network first olds news numbers fillings net some went settled full

@@ -252,7 +252,8 @@ module _ {P K : Type 0} (p : source.Ghosts P) (k : sink.Ghosts K) (network : Net
               let less = slice_get_within fillings n was at in
               let e : is ≡ f = same_Some is f (sym (set_here fillings n is less) ∙ ap (slice_get (set fillings n is)) (sym t.1) ∙ here) in
               subst (λ (x : Filling). IsMarked (ends_of x.span) g.states x.mark) e
-              (subst (λ s. IsMarked (ends_of s) g.states is.mark) (sym left.span) (subst (IsMarked (ends_of was.span) g.states) (sym left.mark) (g.marks n was at)))
+              (subst (λ s. IsMarked (ends_of s) g.states is.mark) (sym left.span)
+              (subst (IsMarked (ends_of was.span) g.states) (sym left.mark) (g.marks n was at)))
           | inr t ↦ g.marks m f (sym (set_apart fillings n m is t.1) ∙ here)
         ];
       }
@@ -342,11 +343,12 @@ module _ {P K : Type 0} (p : source.Ghosts P) (k : sink.Ghosts K) (network : Net
     opens_there o = record {
       line_in = λ c. elim (eqb_tells c was.span.into) as (λ t. (more : List ℕ)
           × (line_in_at (states was.span.there).opened c ≡ grown more (line_in_at (first was.span.there) c))) [
-            | inl t ↦ subst (λ d. (more : List ℕ) × (line_in_at (states was.span.there).opened d ≡ grown more (line_in_at (first was.span.there) d))) (sym t.1) (
-              (o.line_in was.span.into).0 ++ bytes,
-              opened_grew.line ∙ ap (grown bytes) (o.line_in was.span.into).1
-                  ∙ grown_twice (o.line_in was.span.into).0 bytes (line_in_at (first was.span.there) was.span.into),
-            )
+            | inl t ↦ subst (λ d. (more : List ℕ) × (line_in_at (states was.span.there).opened d
+                ≡ grown more (line_in_at (first was.span.there) d))) (sym t.1) (
+                  (o.line_in was.span.into).0 ++ bytes,
+                  opened_grew.line ∙ ap (grown bytes) (o.line_in was.span.into).1
+                      ∙ grown_twice (o.line_in was.span.into).0 bytes (line_in_at (first was.span.there) was.span.into),
+                )
             | inr t ↦ ((o.line_in c).0, opened_grew.others c t.1 ∙ (o.line_in c).1)
           ];
       edges = λ c none. opened_grew.others c (λ e. none f has refl (sym e)) ∙ o.edges c none;

@@ -77,7 +77,8 @@ module _ {P K : Type 0} (p : source.Ghosts P) (k : sink.Ghosts K) where
     each = λ i was is here now. elim (eqb_tells i there) as (λ t. SiteStill p k was is) [
       | inl t ↦
           let one : old ≡ was = same_Some old was (sym at ∙ ap (slice_get olds) (sym t.1) ∙ here) in
-          let two : new ≡ is = same_Some new is (sym (set_here olds there new (slice_get_within olds there old at)) ∙ ap (slice_get (set olds there new)) (sym t.1) ∙ now) in
+          let within = slice_get_within olds there old at in
+          let two : new ≡ is = same_Some new is (sym (set_here olds there new within) ∙ ap (slice_get (set olds there new)) (sym t.1) ∙ now) in
           subst (λ x. SiteStill p k x is) one (subst (SiteStill p k old) two s)
       | inr t ↦
           let same : was ≡ is = same_Some was is (sym here ∙ sym (set_apart olds there i new t.1) ∙ now) in

@@ -7,11 +7,12 @@ use Rattle.std.proofs.lemmas.Option.{same_Some, slice_get_within}
 use Rattle.port_base.specs.Views.{OutView, BaysView, no_output, line_out_at}
 use Rattle.port_base.specs.declared.sink.Sink as sink
 use Rattle.port_base.specs.declared.source.Source as source
-use Rattle.node_moments.specs.NodeView.{NodeView}
+use Rattle.otn_base.specs.declared.kind.PortName.TheVariants as port
+use Rattle.node_moments.specs.NodeView.{NodeView, is_ready}
 use Rattle.network_laws.specs.Networks.{Network, IsNetwork}
 use Rattle.network_run.specs.Fibres.{HandedTo, FilledUp, LeftUnfilled, IsFilled}
 use Rattle.network_run.specs.Going.{AreFibres, Going, GoesOnThen, KeepsGoing, IsFull}
-use Rattle.network_run.specs.Sites.{EachOne, SiteWent, SiteTurned, SiteStill, SameNode, IsTurned, site_view}
+use Rattle.network_run.specs.Sites.{EachOne, SiteWent, SiteTurned, SiteStill, SameMoment, SameNode, IsTurned, AllSent, site_view}
 use Rattle.network_run.specs.declared.fibres.Filling.{Filling}
 use Rattle.network_run.specs.declared.site.Site.{Site}
 use Rattle.network_run.proofs.Each.{set_here, set_apart, below_or_here}
@@ -157,25 +158,34 @@ module _ {P K : Type 0} (p : source.Ghosts P) (k : sink.Ghosts K) where
 
   -- ---- a turn
 
-  pub keeps_turn : (olds wrote filled kept news : List (Site P K)) (was is : List Filling) → EachOne (SiteWent p k) olds wrote
-      → KeepsGoing p k wrote was filled is → EachOne (SiteStill p k) filled kept → EachOne (SiteTurned p k) kept news → KeepsGoing p k olds was news is
-  keeps_turn olds wrote filled kept news was is one two three four =
-      keeps_twice olds kept news was is is
-      (keeps_twice olds filled kept was is is
-      (keeps_twice olds wrote filled was was is (keeps_went olds wrote was one) two)
-      (keeps_still filled kept is three))
-      (keeps_turned kept news is four)
-
-  -- how far the node is
-  record SameMoment (old new : Site P K) : Type 0 where
-    turns : new.node.turns ≡ old.node.turns
-    past : new.node.past ≡ old.node.past
-
   moment_twice : (old mid new : Site P K) → SameMoment old mid → SameMoment mid new → SameMoment old new
   moment_twice old mid new one two = record { turns = two.turns ∙ one.turns; past = two.past ∙ one.past }
 
   of_node : (old new : Site P K) → new.node ≡ old.node → SameMoment old new
   of_node old new e = record { turns = ap (λ (n : NodeView). n.turns) e; past = ap (λ (n : NodeView). n.past) e }
+
+  -- all lines out were written, and then all fibres filled
+  pub keeps_sent : (olds wrote news : List (Site P K)) (was is : List Filling) → EachOne (SiteWent p k) olds wrote → KeepsGoing p k wrote was news is
+      → KeepsGoing p k olds was news is
+  keeps_sent olds wrote news was is one two = keeps_twice olds wrote news was was is (keeps_went olds wrote was one) two
+
+  pub each_sent : (olds wrote news : List (Site P K)) → EachOne (SiteWent p k) olds wrote → EachOne SameNode wrote news → EachOne SameMoment olds news
+  each_sent olds wrote news one two =
+      each_twice SameMoment SameMoment SameMoment olds wrote news moment_twice
+      (each_as (SiteWent p k) SameMoment olds wrote (λ old new e. e.moment) one)
+      (each_as SameNode SameMoment wrote news of_node two)
+
+  pub all_sent : (olds wrote news : List (Site P K)) → EachOne (SiteWent p k) olds wrote → EachOne SameNode wrote news → AllSent news
+  all_sent olds wrote news one two i site at b few =
+      let within = slice_get_within news i site at in
+      let mid = some_at wrote i (let count = two.count in omega arith) in
+      let old = some_at olds i (let count = two.count in let same = one.count in omega arith) in
+      ap (λ (n : NodeView). is_ready n (port.LineOut b)) (two.each i mid.0 site mid.1 at) ∙ (one.each i old.0 mid.0 old.1 mid.1).shut b few
+
+  pub keeps_turn : (olds sent kept news : List (Site P K)) (was is : List Filling) → KeepsGoing p k olds was sent is → EachOne (SiteStill p k) sent kept
+      → EachOne (SiteTurned p k) kept news → KeepsGoing p k olds was news is
+  keeps_turn olds sent kept news was is one two three =
+      keeps_twice olds kept news was is is (keeps_twice olds sent kept was is is one (keeps_still sent kept is two)) (keeps_turned kept news is three)
 
   then_turned : (old mid new : Site P K) → SameMoment old mid → SiteTurned p k mid new → IsTurned old new
   then_turned old mid new m t = record {
@@ -184,13 +194,10 @@ module _ {P K : Type 0} (p : source.Ghosts P) (k : sink.Ghosts K) where
     done = λ going. t.turned.done (let a = m.turns in let b = m.past in omega arith) ∙ ap (λ n. n + 1) m.past;
   }
 
-  pub each_turned : (olds wrote filled kept news : List (Site P K)) → EachOne (SiteWent p k) olds wrote → EachOne SameNode wrote filled
-      → EachOne (SiteStill p k) filled kept → EachOne (SiteTurned p k) kept news → EachOne IsTurned olds news
-  each_turned olds wrote filled kept news one two three four =
+  pub each_turned : (olds sent kept news : List (Site P K)) → EachOne SameMoment olds sent → EachOne (SiteStill p k) sent kept
+      → EachOne (SiteTurned p k) kept news → EachOne IsTurned olds news
+  each_turned olds sent kept news one two three =
       each_twice SameMoment (SiteTurned p k) IsTurned olds kept news then_turned
-      (each_twice SameMoment SameMoment SameMoment olds filled kept moment_twice
-      (each_twice SameMoment SameMoment SameMoment olds wrote filled moment_twice
-      (each_as (SiteWent p k) SameMoment olds wrote (λ old new e. record { turns = e.turns; past = e.past }) one)
-      (each_as SameNode SameMoment wrote filled of_node two))
-      (each_as (SiteStill p k) SameMoment filled kept (λ old new e. of_node old new e.node) three))
-      four
+      (each_twice SameMoment SameMoment SameMoment olds sent kept moment_twice one
+      (each_as (SiteStill p k) SameMoment sent kept (λ old new e. of_node old new e.node) two))
+      three

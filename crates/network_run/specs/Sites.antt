@@ -1,10 +1,12 @@
 -- API: the nodes of a network with their places, and what all of them do at once.
-use Rattle.std.specs.Prelude.{◌≡◌, ◌≤◌, ◌+◌, ℕ, Bool, List, length, slice_get, Some}
+use Rattle.std.specs.Prelude.{◌≡◌, ◌≤◌, ◌<◌, ◌+◌, ℕ, false, List, length, slice_get, Some}
+use Rattle.otn_base.specs.declared.kind.PortName.TheVariants as port
 use Rattle.port_base.specs.Racks.{bays_view}
 use Rattle.port_base.specs.Views.{BaysView}
 use Rattle.port_base.specs.declared.bays.Rack.{Rack}
 use Rattle.port_base.specs.declared.sink.Sink as sink
 use Rattle.port_base.specs.declared.source.Source as source
+use Rattle.node_moments.specs.NodeView.{is_ready}
 use Rattle.node_core.specs.Growing.{OutputsGrow}
 use Rattle.network_core.specs.Turns.{LeadsLater}
 use Rattle.network_run.specs.EdgePorts.{edge_at_hand, edge_ended, edge_faults, edge_left, is_edge_boxed, edge_got, edge_keeps, edge_out_faults, is_edge_out_boxed}
@@ -46,13 +48,22 @@ pub record EachOne {A : Type 0} (Goes : A → A → Type 0) (olds news : List A)
   pub count : length news ≡ length olds
   pub each : (i : ℕ) (old new : A) → slice_get olds i ≡ Some old → slice_get news i ≡ Some new → Goes old new
 
--- the node went on from whatever moment of whatever plan it stood at, within its turn, and what its line outputs got
--- grew
+-- its node is in the same turn
+pub record SameMoment {P K : Type 0} (old new : Site P K) : Type 0 where
+  pub turns : new.node.turns ≡ old.node.turns
+  pub past : new.node.past ≡ old.node.past
+
+-- no line out of its node has a piece left in the turn
+abbrev pub LinesShut : {P K : Type 0} → Site P K → Type 0
+LinesShut site = (b : ℕ) → b < 4 → is_ready site.node (port.LineOut b) ≡ false
+
+-- the node went on from whatever moment of whatever plan it stood at, by all pieces of its lines out in the turn, and
+-- what these got grew
 pub record SiteWent {P K : Type 0} (p : source.Ghosts P) (k : sink.Ghosts K) (old new : Site P K) : Type 0 where
   pub stands : LeadsLater old.node (site_view p k old) new.node (site_view p k new)
   pub grows : OutputsGrow (site_view p k old) (site_view p k new)
-  pub turns : new.node.turns ≡ old.node.turns
-  pub past : new.node.past ≡ old.node.past
+  pub moment : SameMoment old new
+  pub shut : LinesShut new
 
 -- its node has done a turn more, where it was not past its last
 pub record IsTurned {P K : Type 0} (old new : Site P K) : Type 0 where
@@ -85,3 +96,7 @@ pub record HasGoing {P K : Type 0} (sites : List (Site P K)) : Type 0 where
   pub site : Site P K
   pub at : slice_get sites i ≡ Some site
   pub going : site.node.past + 1 ≤ site.node.turns
+
+-- what is to leave on the lines of all nodes in their turns has left
+abbrev pub AllSent : {P K : Type 0} → List (Site P K) → Type 0
+AllSent sites = (i : ℕ) (site : Site _ _) → slice_get sites i ≡ Some site → LinesShut site

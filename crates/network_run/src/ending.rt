@@ -1,5 +1,5 @@
 // How a run of a network ends.
-ghost use Rattle.std.specs.Prelude.{◌≡◌, ◌≤◌, IfOk};
+ghost use Rattle.std.specs.Prelude.{◌≡◌, ◌≤◌, [], IfOk};
 ghost use Rattle.device_model.specs.RunNumbers.{numbers_of_run};
 ghost use Rattle.network_run.specs.Ending.{AreSettled, IsSettled};
 ghost use Rattle.network_run.specs.Sites.{AllOver};
@@ -8,18 +8,18 @@ use crate::Site;
 use node_core::RunNumbers;
 use otn_base::Memory;
 use port_base::{Sink, Source};
-use std::alloc::Global;
 
-/// Settles all nodes, which are past their last turns, and tells the numbers of each. It answers `Memory` where there
-/// is none for these.
+/// Settles all nodes, which are past their last turns, and puts the numbers of each into the empty list. It answers
+/// `Memory` where that has no room for them, and there is no memory.
 pub fn settle_all<P: Source, K: Sink>(
-    alloc: Global,
     sites: &mut Vec<Site<P, K>>,
+    room: Vec<RunNumbers>,
 ) -> Result<Vec<RunNumbers>, Memory>
     requires over { AllOver sites.old.items }
+    requires empty { room.items ≡ [] }
     ensures { IfOk result (λ numbers. AreSettled P.Source K.Sink sites.old.items sites.new.items numbers.items) }
 {
-    let mut numbers = Vec::with_capacity(alloc, sites.len())?;
+    let mut numbers = room;
     for i in 0..sites.len() {
         let told = settle(&mut sites[i]);
         numbers.push(told)?;

@@ -22,4 +22,4 @@ pub use ports::{NetIn, NetOut};
 pub use run::run_network;
 pub use serving::write_lines;
 pub use site::Site;
-pub use turn::{do_turn, do_turns, fill_all};
+pub use turn::{do_turn, do_turns, fill_all, send_lines};

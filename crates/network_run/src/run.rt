@@ -17,7 +17,8 @@ const MOST_TURN_BYTES: usize = 32 * LINE_FRAME_BYTES;
 
 /// Runs all nodes of a network turn by turn to the end: in each turn first what leaves on the lines of all nodes, then
 /// that goes over the fibres, then all else. So a fibre may lead round to where it began. Then all are settled, and it
-/// tells their numbers. It answers `Memory` where there is none for its room, of a turn of a line and of the numbers.
+/// tells their numbers. It answers `Memory` where there is none for its room, of a turn of a line and of the numbers,
+/// which it takes before the first turn.
 ///
 /// A port that fails kills its own place and no other. A fibre is not whole any more where its near end has died or is
 /// none, or where its far end takes no more.
@@ -31,6 +32,7 @@ pub fn run_network<P: Source, K: Sink>(
         numbers.items fillings.new.items) }
 {
     let mut frames = Vec::with_capacity(alloc, MOST_TURN_BYTES)?;
+    let room = Vec::with_capacity(alloc, sites.len())?;
     do_turns(fillings, sites, &mut frames);
-    settle_all(alloc, sites)
+    settle_all(sites, room)
 }

@@ -1,7 +1,7 @@
 // A turn of a network.
 ghost use Rattle.std.specs.Prelude.{◌≡◌, ◌≤◌, ◌<◌, ◌+◌, ℕ, true, false, Some, slice_get};
 ghost use Rattle.network_run.specs.Going.{IsFull, KeepsGoing};
-ghost use Rattle.network_run.specs.Sites.{AllOver, EachOne, HasGoing, IsTurned, SameNode};
+ghost use Rattle.network_run.specs.Sites.{AllOver, AllSent, EachOne, HasGoing, IsTurned, SameMoment, SameNode};
 ghost use Rattle.network_run.specs.declared.fibres.Filling.{Filling};
 
 use crate::Site;
@@ -18,10 +18,27 @@ pub fn do_turn<P: Source, K: Sink>(
     ensures keeps { KeepsGoing P.Source K.Sink sites.old.items fillings.old.items sites.new.items fillings.new.items }
     ensures turned { EachOne IsTurned sites.old.items sites.new.items }
 {
-    write_all(sites);
-    fill_all(fillings, sites, frames);
+    send_lines(fillings, sites, frames);
     let_go_all(sites);
     end_all(sites);
+}
+
+/// What leaves on the lines of all nodes in their turns goes over the fibres.
+pub fn send_lines<P: Source, K: Sink>(
+    fillings: &mut Vec<Filling>,
+    sites: &mut Vec<Site<P, K>>,
+    frames: &mut Vec<u8>,
+)
+    ensures keeps { KeepsGoing P.Source K.Sink sites.old.items fillings.old.items sites.new.items fillings.new.items }
+    ensures moments { EachOne SameMoment sites.old.items sites.new.items }
+
+    // all of it has left, and nothing of it waits for a fibre that is whole
+    ensures sent { AllSent sites.new.items }
+    ensures full { (n : ℕ) (f : Filling) → slice_get fillings.new.items n ≡ Some f → f.whole ≡ true
+        → IsFull P.Source K.Sink sites.new.items f }
+{
+    write_all(sites);
+    fill_all(fillings, sites, frames);
 }
 
 /// Fills all fibres with what waits for them.

@@ -4,6 +4,11 @@ use Rattle.network_run.proofs.Each.{at_index}
 use Rattle.network_run.proofs.Settling.{SettledBelow, all_settled, settled_more, settled_none, still_over}
 use Rattle.network_run.proofs.ending.settle_all.Goals as goal
 
+pub loop-i-init : goal.loop-i-init
+loop-i-init g c =
+    subst (SettledBelow g.P.Source g.K.Sink 0 c.args.sites.now.items c.args.sites.now.items) (sym c.requires.empty)
+    (settled_none g.P.Source g.K.Sink c.args.sites.now.items)
+
 pub settle-told-requires : goal.settle-told-requires
 settle-told-requires g c =
     let sites = c.loop-i.sites.items in

@@ -23,7 +23,8 @@ loop-n-preserved g c =
     let is = c.fill.new.filling in
     let fillings = c.loop-n.fillings.items in
     let at : slice_get fillings c.loop-n.n ≡ Some was =
-    at_index fillings c.loop-n.n was (let test = c.loop-n-test.true in let ok = c.loop-n.fillings.ok in let count = i.count in let first = c.args.fillings.now.ok in omega arith)
+    at_index fillings c.loop-n.n was
+    (let test = c.loop-n-test.true in let ok = c.loop-n.fillings.ok in let count = i.count in let first = c.args.fillings.now.ok in omega arith)
     c.index_mut.ensures.value in
     record {
       keeps = keeps_twice g.P.Source g.K.Sink c.args.sites.now.items olds news c.args.fillings.now.items fillings _ i.keeps
