@@ -76,12 +76,12 @@ meets_so b c port slots =
     (and_from (port == port) (same_slots slots slots) (eq-eqb port port refl) (slots_self slots))
 
 -- it goes on, by some port and slots
-record Going (x y : Connection) (b c : ℕ) : Type 0 where
-  port : ℕ
-  slots : LineSlots
-  goes : GoesOn x y b c port slots
+pub record Going (x y : Connection) (b c : ℕ) : Type 0 where
+  pub port : ℕ
+  pub slots : LineSlots
+  pub goes : GoesOn x y b c port slots
 
-going : (x y : Connection) (b c : ℕ) → goes_on x y b c ≡ true → Going x y b c
+pub going : (x y : Connection) (b c : ℕ) → goes_on x y b c ≡ true → Going x y b c
 going x y b c e =
     let p = and_parts (meets x.to y.from b c) (nat_le x.start y.start && nat_le y.stop x.stop) e in
     let q = and_parts (nat_le x.start y.start) (nat_le y.stop x.stop) p.1 in
@@ -93,7 +93,7 @@ going x y b c e =
           { puts = m.puts; takes = m.takes; start = leb-true x.start y.start q.0; stop = leb-true y.stop x.stop q.1 };
     }
 
-goes_so : (x y : Connection) (b c port : ℕ) (slots : LineSlots) → GoesOn x y b c port slots → goes_on x y b c ≡ true
+pub goes_so : (x y : Connection) (b c port : ℕ) (slots : LineSlots) → GoesOn x y b c port slots → goes_on x y b c ≡ true
 goes_so x y b c port slots goes =
     let m : meets x.to y.from b c ≡ true = ap (λ to. meets to y.from b c) goes.puts ∙ ap (λ from. meets (to_end.Line b port slots) from b c) goes.takes
     ∙ meets_so b c port slots in
@@ -105,7 +105,7 @@ goes_so x y b c port slots goes =
 some_is : {A : Type 0} (a b : A) → Some a ≡ Some b → a ≡ b
 some_is {A} a b e = cc
 
-next_in : {A : Type 0} (y : A) (ys : List A) (x : A) → Contains ys x → Contains (y ∷ ys) x
+pub next_in : {A : Type 0} (y : A) (ys : List A) (x : A) → Contains ys x → Contains (y ∷ ys) x
 next_in {A} y ys x has = (suc has.0, omega (arith, has.1), has.2)
 
 entry_found : (test : Connection → Bool) (xs : List Connection) (x : Connection) → first_entry test xs ≡ Some x → Contains xs x × (test x ≡ true)

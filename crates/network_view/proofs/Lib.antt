@@ -1,0 +1,5 @@
+pub mod Contained
+pub mod Lists
+pub mod Telling
+pub mod Ways
+pub mod Whole
