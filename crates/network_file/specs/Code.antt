@@ -1,7 +1,8 @@
 -- Believed: the numbers of the rules; and the words in which a program says what is broken.
 use Rattle.std.specs.Prelude.{ℕ, List, codes}
 use Rattle.network_file.specs.declared.error.NetworkError.{NetworkError}
-use Rattle.network_file.specs.declared.error.NetworkError.TheVariants.{NotToml, UnknownKey, MissingKey, WrongKind, TooMany, BadName, NameTwice, NoSuchNode, NoSuchLine, LineTwice, PlanRefused, OtherForm}
+use Rattle.network_file.specs.declared.error.NetworkError.TheVariants.{NotToml, UnknownKey, MissingKey, WrongKind, TooMany, BadName}
+use Rattle.network_file.specs.declared.error.NetworkError.TheVariants.{NameTwice, NoSuchNode, NoSuchLine, LineTwice, PlanRefused, OtherForm}
 
 -- the rules count from 1, in the order in which they are tried
 abbrev pub code_of : NetworkError → ℕ

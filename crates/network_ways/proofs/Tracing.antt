@@ -1,5 +1,6 @@
 -- What is found back from an end is a way, and each way is found.
-use Rattle.std.proofs.Common.{◌≡◌, ◌<◌, ◌+◌, ◌-◌, ℕ, zero, suc, Bool, true, false, ◌&&◌, ◌==◌, if◌then◌else◌, List, [], ◌∷◌, ◌++◌, Option, None, Some, length, get_or, refl, sym, ap, ◌∙◌, subst, arith, append-nil}
+use Rattle.std.proofs.Common.{◌≡◌, ◌<◌, ◌+◌, ◌-◌, ℕ, zero, suc, Bool, true, false, ◌&&◌, ◌==◌, if◌then◌else◌, List}
+use Rattle.std.proofs.Common.{[], ◌∷◌, ◌++◌, Option, None, Some, length, get_or, refl, sym, ap, ◌∙◌, subst, arith, append-nil}
 use Rattle.std.specs.Prelude.{option_map, nat_le, slice_get}
 use Rattle.std.specs.List.{Contains}
 use Rattle.std.specs.Str.{bytes_eq}
@@ -18,7 +19,8 @@ use Rattle.network_laws.specs.Networks.{FibreEnds, Network, IsNetwork}
 use Rattle.network_laws.specs.Routes.{Leg, IsLeg, IsJoined, IsRoute, last_leg}
 use Rattle.network_laws.specs.Ways.{GoesOn}
 use Rattle.network_laws.proofs.Routes.{one_way_back}
-use Rattle.network_ways.specs.Tracing.{same_kind, same_slots, meets, goes_on, first_entry, entry_of, by_fibre, or_else, before_by, before, Way, or_on, trace, IsFirst, FindsTheOneBefore, FindsWays, FindsEachWay}
+use Rattle.network_ways.specs.Tracing.{same_kind, same_slots, meets, goes_on, first_entry, entry_of, by_fibre, or_else}
+use Rattle.network_ways.specs.Tracing.{before_by, before, Way, or_on, trace, IsFirst, FindsTheOneBefore, FindsWays, FindsEachWay}
 
 -- ---- tests
 

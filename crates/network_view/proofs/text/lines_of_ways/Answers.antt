@@ -20,7 +20,8 @@ loop-i-preserved c =
     let said = c.in_ok-count.ensures.text in let is = c.index-legs-i.is in cc in
     let ways : c.in_ok-count.field-0 ≡ length (way_at network (length all) x) = let said = c.in_ok-count.ensures.told in let is = c.index-legs-i.is in cc in
     record {
-      text = flat_numbered (way_lines c.args.named.now) (way_at network (length all)) all i x c.loop-i.count (string_bytes c.loop-i.text) (string_bytes c.add_way.new.text) known inv.count inv.text more;
+      text = flat_numbered (way_lines c.args.named.now) (way_at network (length all)) all i x c.loop-i.count (string_bytes c.loop-i.text)
+          (string_bytes c.add_way.new.text) known inv.count inv.text more;
       count = flat_count (way_at network (length all)) all i x c.loop-i.count c.in_ok-count.field-0 known inv.count ways;
       most = (let most = inv.most in let one = c.in_ok-count.ensures.one in omega arith);
     }
