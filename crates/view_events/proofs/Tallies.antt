@@ -1,6 +1,6 @@
 -- Numbers that stop at the end of 64 bits.
-use Rattle.std.proofs.Common.{◌≡◌, ◌+◌, ◌-◌, ◌^◌, ℕ, Bool, true, false, List, ◌∷◌, length, arith}
-use Rattle.std.specs.Prelude.{if◌then◌else◌, max, min}
+use Rattle.std.proofs.Common.{◌≡◌, ◌+◌, ℕ, Bool, true, false, List, ◌∷◌, length, arith}
+use Rattle.std.specs.Prelude.{if◌then◌else◌, max}
 use Rattle.view_events.specs.Tallies.{capped}
 
 -- one more, where it counts

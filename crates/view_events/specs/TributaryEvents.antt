@@ -1,6 +1,6 @@
 -- API: what changes of a tributary from turn to turn, by what the view says of it in the turns so far in which it was
 -- shown, the last one first.
-use Rattle.std.specs.Prelude.{◌≡◌, ◌==◌, ◌&&◌, ◌+◌, ℕ, Bool, true, false, not, max, List, [], ◌∷◌, Option, Some, None, if◌then◌else◌}
+use Rattle.std.specs.Prelude.{◌≡◌, ◌&&◌, ◌+◌, ℕ, Bool, true, false, not, max, List, [], ◌∷◌, Option, Some, None, if◌then◌else◌}
 use Rattle.std.specs.List.{find}
 use Rattle.view_events.specs.LineEvents.{is_whole}
 use Rattle.view_events.specs.SlotEvents.{is_wrong_twice, msi_bytes}

@@ -1,5 +1,5 @@
 // The MSI bytes of the slots of a line, and their events.
-ghost use Rattle.std.specs.Prelude.{◌≡◌, ◌<◌, ℕ, [], ◌∷◌, List, All};
+ghost use Rattle.std.specs.Prelude.{◌≡◌, ◌<◌, [], ◌∷◌, List, All};
 ghost use Rattle.std.specs.List.{find};
 ghost use Rattle.view_events.specs.declared.said.MsiSaid.{MsiSaid};
 ghost use Rattle.view_events.specs.SlotEvents.{SlotStands, is_msi_event, msi_bytes, is_wrong_one, is_wrong_twice};
@@ -76,8 +76,8 @@ impl SlotTally {
         None
     }
 
-    // Whether the last two MSI bytes of a slot came since this turn, and were not this one.
-    fn is_wrong_twice(&self, slot: u8, first: u64, right: u8) -> bool
+    /// Whether the last two MSI bytes of a slot came since this turn, and were not this one.
+    pub fn is_wrong_twice(&self, slot: u8, first: u64, right: u8) -> bool
         requires { slot < SLOTS }
         ensures { (past : List MsiSaid) → SlotStands past self.now
             → result ≡ is_wrong_twice (msi_bytes slot past) first right }

@@ -1,5 +1,5 @@
 // Numbers of 64 bits that stop at their end.
-ghost use Rattle.std.specs.Prelude.{◌≡◌, ◌+◌, ℕ, List, Bool, if◌then◌else◌};
+ghost use Rattle.std.specs.Prelude.{◌≡◌, ◌+◌, if◌then◌else◌};
 ghost use Rattle.view_events.specs.Tallies.{capped};
 
 /// One more, where this counts.

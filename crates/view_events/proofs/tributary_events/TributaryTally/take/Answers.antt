@@ -1,5 +1,5 @@
-use Rattle.std.proofs.Common.{rules, refl, ◌≡◌, ◌∙◌, ◌+◌, ◌∷◌, Bool, sym, ap}
-use Rattle.std.specs.Prelude.{◌&&◌, not, if◌then◌else◌, filter, max}
+use Rattle.std.proofs.Common.{rules, refl, ◌≡◌, ◌∙◌, ◌+◌, ◌∷◌, Bool, ap}
+use Rattle.std.specs.Prelude.{◌&&◌, not, if◌then◌else◌, filter}
 use Rattle.std.specs.List.{prefix_len}
 use Rattle.view_events.specs.Tallies.{capped}
 use Rattle.view_events.specs.TributaryEvents.{is_up, is_waiting, is_down, state_before, times_down, turns_down, most_turns_down}
