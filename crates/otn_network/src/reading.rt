@@ -1,0 +1,108 @@
+// The file of the network, and the plans of its nodes.
+use crate::answer::Answer;
+use check_command::{Planned, read_plan};
+use network_file::{FibreEnds, NetworkFile, NoNetwork, NodeEntry, fault};
+use network_view::FibreEnds as ToldFibre;
+use otn_base::Memory;
+use otn_base::limits::MOST_PLAN_BYTES;
+use otn_ports::FileSource;
+use plan_file::{Name, Plan};
+use port_base::{Reading, read_whole};
+use std::alloc::{AllocError, Global};
+use std::fs;
+
+/// A network's file, and the plans of its nodes, that make a network.
+#[derive(Drop)]
+pub(crate) struct Joined {
+    pub(crate) file: NetworkFile,
+    pub(crate) plans: Vec<Plan>,
+}
+
+/// What was read.
+#[derive(Drop)]
+pub(crate) enum Read {
+    Accepted(Joined),
+    /// The file or a plan is refused, or can't be read.
+    Refused(Answer),
+}
+
+/// Reads the file of this name, and the plan of each node in its folder beside it.
+pub(crate) fn read_all(rt: &HostRuntime, path: &str) -> Result<Read, Memory> {
+    let mut text = buffer(rt.alloc())?;
+    let mut source = FileSource::of(fs::open(rt, path).ok());
+    let (reading, count) = read_whole(&mut source, &mut text);
+    if reading == Reading::Lost {
+        return Ok(Read::Refused(Answer::Fault));
+    }
+    match NetworkFile::read(rt.alloc(), &text[..count]) {
+        Ok(file) => read_plans(rt, base_of(path), file),
+        Err(NoNetwork::Refused(error, place)) => Ok(Read::Refused(Answer::Network(error, place))),
+        Err(NoNetwork::Memory) => Err(Memory),
+    }
+}
+
+// Room for the longest file and one byte more.
+fn buffer(alloc: Global) -> Result<Vec<u8>, AllocError> {
+    vec![in alloc; 0; MOST_PLAN_BYTES + 1]
+}
+
+// The folder of a file, with the slash behind it.
+fn base_of(path: &str) -> &str {
+    match path.rfind('/') {
+        Some(at) => &path[..at + 1],
+        None => "",
+    }
+}
+
+fn read_plans(rt: &HostRuntime, base: &str, file: NetworkFile) -> Result<Read, Memory> {
+    let mut plans = Vec::new(rt.alloc());
+    let nodes = file.nodes.as_slice();
+    for i in 0..nodes.len() {
+        match read_node(rt, base, i + 1, &nodes[i])? {
+            Ok(plan) => plans.push(plan)?,
+            Err(answer) => return Ok(Read::Refused(answer)),
+        }
+    }
+    Ok(match fault(&file, plans.as_slice()) {
+        None => Read::Accepted(Joined { file, plans }),
+        Some((error, place)) => Read::Refused(Answer::Network(error, place)),
+    })
+}
+
+// The plan of a node, or why there is none.
+fn read_node(
+    rt: &HostRuntime,
+    base: &str,
+    number: usize,
+    node: &NodeEntry,
+) -> Result<Result<Plan, Answer>, Memory> {
+    let folder = node.folder.as_str();
+    let path = format!(in rt.alloc(); "{base}{folder}/plan.toml")?;
+    let mut source = FileSource::of(fs::open(rt, &path).ok());
+    Ok(match read_plan(rt.alloc(), &mut source)? {
+        Planned::Accepted(plan) => Ok(plan),
+        Planned::Refused(error, place) => {
+            let name = String::from_str(rt.alloc(), node.name.as_str())?;
+            Err(Answer::Plan(number, name, error, place))
+        }
+        Planned::Fault => Err(Answer::Fault),
+    })
+}
+
+/// The names of these nodes.
+pub(crate) fn names_of(alloc: Global, nodes: &[NodeEntry]) -> Result<Vec<Name>, Memory> {
+    let mut names = Vec::new(alloc);
+    for node in nodes {
+        names.push(Name::of(String::from_str(alloc, node.name.as_str())?))?;
+    }
+    Ok(names)
+}
+
+/// These fibres.
+pub(crate) fn fibres_of(alloc: Global, fibres: &[FibreEnds]) -> Result<Vec<ToldFibre>, Memory> {
+    let mut told = Vec::new(alloc);
+    for f in fibres {
+        told.push(ToldFibre::new(f.from_node(), f.from_line(), f.to_node(), f.to_line()))?;
+    }
+    Ok(told)
+}
