@@ -4,7 +4,7 @@ use Rattle.std.specs.Prelude.{codes}
 use Rattle.network_file.specs.declared.error.NetworkError.TheVariants as rule
 use Rattle.network_file.specs.declared.node.NodeEntry.{NodeEntry}
 use Rattle.network_file.specs.declared.place.Place.TheVariants as at
-use Rattle.network_file.specs.Outline.{End, Fibre, Outline, index_of, file_of}
+use Rattle.network_file.specs.Outline.{End, Fibre, Outline, file_of}
 use Rattle.network_file.specs.Refusal.{value_refusal}
 use Rattle.network_file.specs.Rules.{is_folder}
 

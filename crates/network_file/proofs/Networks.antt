@@ -1,6 +1,6 @@
 -- A sound file with the plans of its nodes is a network exactly where neither of the last two rules is broken.
-use Rattle.std.proofs.Common.{◌≡◌, ℕ, ◌<◌, Bool, true, false, ◌&&◌, not, is_some, List, length, Option, Some, None, slice_get, refl, ap, sym, ◌∙◌, zero, suc}
-use Rattle.std.proofs.lemmas.Bool.{and_parts, not-false, false≢true}
+use Rattle.std.proofs.Common.{◌≡◌, ℕ, ◌<◌, Bool, true, false, ◌&&◌, not, is_some, List, length, Option, Some, None, slice_get, refl, ap, sym, ◌∙◌}
+use Rattle.std.proofs.lemmas.Bool.{and_parts, false≢true}
 use Rattle.std.specs.List.{Contains}
 use Rattle.otn_base.specs.declared.kind.PortName.TheVariants as port
 use Rattle.otn_base.specs.declared.line_kind.LineKind.{LineKind}
@@ -16,7 +16,7 @@ use Rattle.network_file.specs.declared.error.NetworkError.TheVariants.{PlanRefus
 use Rattle.network_file.specs.declared.file.NetworkFile.{NetworkFile}
 use Rattle.network_file.specs.Joining.{network_of, is_same_kind, is_same_mask, is_same_form, are_two_forms, differ, has_two_forms, is_refused, joining_rules, joining_place, joining_fault}
 use Rattle.network_file.specs.Sound.{IsSound}
-use Rattle.network_file.proofs.Places.{none_at, nodes_none, fibres_none, places_none, places_nowhere, element_of, is_element, element_known}
+use Rattle.network_file.proofs.Places.{none_at, nodes_none, fibres_none, places_none, places_nowhere, element_of, is_element}
 
 -- ---- forms
 

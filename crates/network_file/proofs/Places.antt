@@ -1,9 +1,7 @@
 -- What holds of a list where a rule is broken nowhere in it, and where it is.
-use Rattle.std.proofs.Common.{◌≡◌, ℕ, ◌+◌, ◌<◌, ◌≤◌, Bool, true, false, ◌||◌, cond, List, [], ◌∷◌, ◌++◌}
-use Rattle.std.proofs.Common.{take, length, map, Option, Some, None, option_map, slice_get, refl, ap, sym, ◌∙◌, arith, zero, suc}
+use Rattle.std.proofs.Common.{◌≡◌, ℕ, ◌+◌, ◌<◌, ◌≤◌, Bool, true, false, ◌||◌, cond, List, [], ◌∷◌, ◌++◌, take, length, map, Option, Some, None, slice_get, refl, ap, sym, ◌∙◌, arith, zero, suc}
 use Rattle.std.specs.List.{Contains, list_any}
-use Rattle.std.specs.Option.{option_or}
-use Rattle.std.proofs.lemmas.Option.{slice_get-map, slice_get_within, slice_get-get_or, get_or_from_slice_get}
+use Rattle.std.proofs.lemmas.Option.{slice_get_within, slice_get-get_or, get_or_from_slice_get}
 use Rattle.plan_file.specs.Places.{first, places, places_from, places_after, later_places}
 use Rattle.plan_file.proofs.Steps.{slice_get_front}
 use Rattle.network_file.specs.declared.error.NetworkError.{NetworkError}
@@ -110,11 +108,6 @@ element_of xs x has = slice_get-get_or xs has.0 x has.1 ∙ ap Some has.2
 
 pub is_element : {A : Type 0} (xs : List A) (i : ℕ) (x : A) → slice_get xs i ≡ Some x → Contains xs x
 is_element xs i x at = (i, slice_get_within xs i x at, get_or_from_slice_get xs i x x at)
-
-pub element_known : {A : Type 0} (xs : List A) (i : ℕ) → i < length xs → (x : A) × (slice_get xs i ≡ Some x)
-element_known [] i inside = absurd (omega arith)
-element_known (x ∷ xs) zero inside = (x, refl)
-element_known (x ∷ xs) (suc i) inside = element_known xs i (omega arith)
 
 pub mapped_at : {A B : Type 0} (f : A → B) (xs : List A) (i : ℕ) (y : B) → slice_get (map f xs) i ≡ Some y → (x : A) × (slice_get xs i ≡ Some x) × (y ≡ f x)
 mapped_at f [] i y known = cc

@@ -1,12 +1,9 @@
 -- The file of an outline that breaks no rule is sound.
-use Rattle.std.proofs.Common.{◌≡◌, ℕ, ◌<◌, ◌≤◌, ◌==◌, ℤ, pos, Bool, true, false, ◌&&◌, ◌||◌, not, List, [], ◌∷◌, length, map, nat_lt, Option, Some, None, slice_get, refl, ap, sym, ◌∙◌, arith}
+use Rattle.std.proofs.Common.{◌≡◌, ℕ, ◌<◌, ◌≤◌, ◌==◌, ℤ, pos, true, false, ◌||◌, not, List, length, map, nat_lt, Some, None, slice_get, refl, ap, sym, ◌∙◌, arith}
 use Rattle.std.proofs.lemmas.Bool.{and_parts, not-false, false≢true}
 use Rattle.std.proofs.lemmas.Bool.Decides.{nat_tests, Decides-int_eq}
 use Rattle.std.proofs.lemmas.List.{length-map}
-use Rattle.std.specs.List.{Contains}
 use Rattle.std.specs.Ordering.{int_eq}
-use Rattle.std.specs.Prelude.{◌≢◌, Result, Ok, Err, IfOk}
-use Rattle.std.specs.Str.{bytes_eq}
 use Rattle.plan_file.specs.Entry.{natural}
 use Rattle.plan_file.proofs.Fitting.{within}
 use Rattle.plan_table.specs.NumberTests.{is_name, is_within}
@@ -19,7 +16,7 @@ use Rattle.network_file.specs.Refusal.{value_place, value_refusal, value_rules}
 use Rattle.network_file.specs.Rules.{has_too_many, is_folder, breaks_name, have_one_name, names, lacks_node, lacks_line, lead_to_one_line}
 use Rattle.network_file.specs.Sound.{IsSound}
 use Rattle.network_file.specs.Steps.Lines.{AreAtLines, IsAtLines}
-use Rattle.network_file.proofs.Names.{same_name, one_name, index_inside, index_apart}
+use Rattle.network_file.proofs.Names.{one_name, index_inside, index_apart}
 use Rattle.network_file.proofs.Places.{none_at, top_none, nodes_none, fibres_none, places_none, later_none, element_of, mapped_at, same_number}
 
 -- ---- no rule is broken

@@ -6,7 +6,7 @@ use Rattle.std.specs.Str.{bytes_eq}
 use Rattle.plan_table.specs.NumberTests.{is_within, is_name, is_name_byte}
 use Rattle.network_file.specs.declared.limits.TheConstants.{MOST_NODES, MOST_FIBRES}
 use Rattle.network_file.specs.declared.node.NodeEntry.{NodeEntry}
-use Rattle.network_file.specs.Outline.{End, Fibre, Outline}
+use Rattle.network_file.specs.Outline.{Fibre, Outline}
 
 -- ---- numbers
 

@@ -1,5 +1,5 @@
 -- Believed: what a file that is accepted has.
-use Rattle.std.specs.Prelude.{◌≡◌, ◌<◌, ◌≤◌, ℕ, true, List, Some, length, slice_get}
+use Rattle.std.specs.Prelude.{◌≡◌, ◌<◌, ◌≤◌, ℕ, true, Some, length, slice_get}
 use Rattle.std.specs.List.{Contains}
 use Rattle.otn_base.specs.declared.limits.TheConstants.{LINES}
 use Rattle.plan_table.specs.NumberTests.{is_name}

@@ -1,6 +1,6 @@
 -- Believed: what the table of a network's file says: the value of each key, or what stands for it where the key is not
 -- there.
-use Rattle.std.specs.Prelude.{ℕ, pos, List, map, Option, Some, codes}
+use Rattle.std.specs.Prelude.{pos, List, map, Option, Some, codes}
 use Rattle.std.specs.Option.{option_and_then, option_map_or}
 use Rattle.toml.specs.Data.{Data, Members, get, get_member}
 use Rattle.plan_table.specs.Values.{number_or, text_of, list_of}

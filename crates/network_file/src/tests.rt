@@ -3,7 +3,6 @@
 use crate::{NetworkError, NetworkFile, NoNetwork, Place, fault};
 use plan_file::{Connections, LineList, NoPlan, Plan};
 use std::alloc::{AllocError, Global};
-use std::process::Abort;
 use std::test::Fail;
 
 // What is wanted, the nodes and the fibres.
@@ -133,5 +132,31 @@ fn judges_plans(rt: HostRuntime) -> Result<(), Fail> {
             _ => assert!(rt; case.is_empty(), "{case}"),
         }
     }
+    Ok(())
+}
+
+// A plan without turns.
+fn refused(alloc: Global) -> Plan {
+    Plan {
+        turns: 0,
+        connections: Connections::of(Vec::new(alloc)),
+        otu3_in: LineList::of(Vec::new(alloc)),
+        otu3_out: LineList::of(Vec::new(alloc)),
+        scrambled_in: LineList::of(Vec::new(alloc)),
+        scrambled_out: LineList::of(Vec::new(alloc)),
+    }
+}
+
+#[test]
+fn judges_refused_plans(rt: HostRuntime) -> Result<(), Fail> {
+    let alloc = rt.alloc();
+    let file = pair(alloc).ok().ok_or("file")?;
+    let to = "{ line = 0, port = 1, slots = [3] }";
+    let here = plan(alloc, "scrambled-out = [0]", "{ client = 0 }", to)
+        .ok()
+        .ok_or("here")?;
+    let plans = vec![in alloc; here, refused(alloc)]?;
+    let told = told(alloc, fault(&file, plans.as_slice()))?;
+    assert_eq!(rt; told.as_str(), "11 at node 2");
     Ok(())
 }
