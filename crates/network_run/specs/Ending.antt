@@ -27,7 +27,8 @@ use Rattle.network_run.specs.declared.site.Site.{Site}
 pub record IsSettled {P K : Type 0} (p : source.Ghosts P) (k : sink.Ghosts K) (old new : Site P K) (numbers : Numbers)
     : Type 0 where
   pub left : (plan : Plan) (first : BaysView) (read : InputBytes)
-      → StandsAt plan first read old.node (site_view p k old) → (takings : Takings) × RunLeft plan first (site_view p k new) takings numbers
+      → StandsAt plan first read old.node (site_view p k old)
+      → (takings : Takings) × RunLeft plan first (site_view p k new) takings numbers
   pub line_out : (site_view p k new).line_out ≡ (site_view p k old).line_out
 
 -- so did all

@@ -61,7 +61,8 @@ pub record IsWell (network : Network) (leg : Leg) : Type 0 where
 
 -- All meets exactly where nothing is amiss with any entry.
 abbrev pub TellsWhatMeets : Type 0
-TellsWhatMeets = (named : Named) → (is_met named ≡ true → (leg : Leg) → IsLeg named.network leg → IsWell named.network leg)
+TellsWhatMeets = (named : Named)
+    → (is_met named ≡ true → (leg : Leg) → IsLeg named.network leg → IsWell named.network leg)
     × (((leg : Leg) → IsLeg named.network leg → IsWell named.network leg) → is_met named ≡ true)
 
 -- ---- slots

@@ -1,5 +1,5 @@
--- API: what is told of a network, as text: a line of each fibre, the lines of each way, a line of all that is amiss, and
--- whether nothing is.
+-- API: what is told of a network, as text: a line of each fibre, the lines of each way, a line of all that is amiss,
+-- and whether nothing is.
 use Rattle.std.specs.Prelude.{◌≡◌, ℕ, ◌+◌, ◌-◌, ◌*◌, Bool, true, false, if◌then◌else◌, List, [], ◌∷◌, ◌++◌, codes, length, Option, Some, None, slice_get}
 use Rattle.std.specs.Fmt.{decimal}
 use Rattle.std.specs.List.{flat_map}
@@ -130,7 +130,8 @@ trouble_line named most Unmet leg = unmet_line named leg
 trouble_line named most Untaken leg = untaken_line named leg
 trouble_line named most Round leg = round_line named most leg
 
--- all that is amiss: entries in which none goes on, then those that go on in none, then those whose way has no beginning
+-- all that is amiss: entries in which none goes on, then those that go on in none, then those whose way has no
+-- beginning
 abbrev pub troubles_in : Named → List Leg → List ℕ
 troubles_in named legs =
     flat_map (trouble_line named (length legs) Unmet) legs

@@ -1,4 +1,5 @@
--- API: what may be amiss with an entry of a network: none goes on in it, it goes on in none, or its way has no beginning.
+-- API: what may be amiss with an entry of a network: none goes on in it, it goes on in none, or its way has no
+-- beginning.
 use Rattle.std.specs.Prelude.{ℕ, nat_le, ◌==◌, ◌&&◌, not, if◌then◌else◌, Bool, true, false, List, [], is_none, Option, Some, None, slice_get}
 use Rattle.std.specs.List.{list_any}
 use Rattle.otn_base.specs.LineSlots.{LineSlots}

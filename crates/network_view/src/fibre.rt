@@ -3,8 +3,8 @@ ghost use Rattle.std.specs.Prelude.{◌≡◌};
 
 use std::marker::Model;
 
-/// A fibre: from a line output (0 to 3) of one node to a line input (0 to 3) of one. Nodes are given by their index, from
-/// 0 in the order of the file.
+/// A fibre: from a line output (0 to 3) of one node to a line input (0 to 3) of one. Nodes are given by their index,
+/// from 0 in the order of the file.
 #[derive(Debug, Drop)]
 pub struct FibreEnds {
     here: usize,

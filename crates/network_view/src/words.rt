@@ -165,7 +165,7 @@ fn text_of_signal(alloc: Global, signal: Signal) -> Result<String, Memory>
     Ok(format!(in alloc; "signal {word}")?)
 }
 
-/// In how many turns what a client sends comes in time, of a way of so many nodes behind its first; a mark where the way
+/// In how many turns what a client sends comes in time, on a way of so many nodes after its first; a mark where the way
 /// ends at no client.
 pub(crate) fn text_of_turns(
     alloc: Global,

@@ -1,5 +1,5 @@
-//! `otn_network`, the ways of a network, told: reads the file of the network and the plan of each of its nodes, and hands
-//! them, and standard output, to the one call that tells them.
+//! `otn_network`, the ways of a network, told: reads the file of the network and the plan of each of its nodes, and
+//! hands them, and standard output, to the one call that tells them.
 //!
 //! - `words`: the words after the program's name.
 //! - `reading`: the file of the network, and the plans of its nodes.
