@@ -91,8 +91,9 @@ class Prover:
     def begin(self, name, jobs):
         copy = self.copy_of(name)
         where = os.path.join(copy, 'crates', name)
-        words = ['rt', 'run', '--jobs', str(jobs), '--', '--version'] if self.checkout.is_program(name) else \
-                ['rt', 'lib', '--jobs', str(jobs)]
+        has_page = os.path.exists(os.path.join(self.checkout.top, 'man', f'{name}.1'))
+        words = ['rt', 'run', '--jobs', str(jobs), '--', '--help' if has_page else '--version'] \
+            if self.checkout.is_program(name) else ['rt', 'lib', '--jobs', str(jobs)]
         log = open(os.path.join(copy, 'log'), 'w+', encoding='utf-8', errors='replace')
         process = subprocess.Popen(words, cwd=where, stdin=subprocess.DEVNULL, stdout=log, stderr=log,
                                    start_new_session=True)
