@@ -149,6 +149,8 @@ module _ {P K : Type 0} (p : source.Ghosts P) (k : sink.Ghosts K) (network : Net
       let is : (i : ℕ) → (r.0.run i) ≡ run i = λ i. ap (λ (g : ℕ → Run). g i) r.1 in
       record {
         it = r.0;
+        nodes = settled.count ∙ went.going.count;
+        told = settled.told ∙ went.going.count;
         before = λ i less. (
             let plan = plan_at i less in
             let e = ended_at i plan.0 plan.1 in

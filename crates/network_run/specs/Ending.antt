@@ -48,12 +48,14 @@ pub record IsWholeFibre (f : FibreEnds) (run : ℕ → Run) : Type 0 where
   pub came : (line_in_at (run f.there).before f.into).left ≡ Some bytes
 
 -- It was a run of this network, from places that were `first`, but that what was handed over to a line is counted as
--- there from the first, to places as they are, with these numbers. Over its fibres came what was written to them, or a
--- part of that from the front, and all over each that is told whole.
+-- there from the first, to places as they are, with these numbers: of each of its nodes. Over its fibres came what was
+-- written to them, or a part of that from the front, and all over each that is told whole.
 pub record RanAsNetwork {P K : Type 0} (p : source.Ghosts P) (k : sink.Ghosts K) (network : Network)
     (first : ℕ → BaysView) (news : List (Site P K)) (numbers : List RunNumbers) (fillings : List Filling)
     : Type 0 where
   pub it : NetworkRun network
+  pub nodes : length news ≡ length network.plans
+  pub told : length numbers ≡ length network.plans
   pub before : (i : ℕ) → i < length network.plans → OpensWithMore network i (first i) (it.run i).before
   pub after : (i : ℕ) (new : Site P K) → slice_get news i ≡ Some new → (it.run i).after ≡ site_view p k new
   pub left : (i : ℕ) (n : RunNumbers) → slice_get numbers i ≡ Some n → (takings : Takings)
