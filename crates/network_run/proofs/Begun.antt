@@ -83,8 +83,11 @@ pub runs_as_network : {P K : Type 0} (p : source.Ghosts P) (k : sink.Ghosts K) (
     (numbers : List RunNumbers) → KeepsGoing p k olds was mids is
     → ((n : ℕ) (f : Filling) → slice_get is n ≡ Some f → f.whole ≡ true → IsFull p k mids f)
     → AreSettled p k mids news numbers → RunsAsNetwork p k olds was news numbers is
-runs_as_network p k olds mids news was is numbers keeps full settled network first net some h =
-    ends_well p k network first mids news numbers is net some (keeps network first net (begins p k network first olds was net some h)) settled full
+runs_as_network p k olds mids news was is numbers keeps full settled = record {
+  fibres = keeps.fibres;
+  ran = λ network first net some h.
+      ends_well p k network first mids news numbers is net some (keeps.goes network first net (begins p k network first olds was net some h)) settled full;
+}
 
 pub ran_if : {P K N E : Type 0} (p : source.Ghosts P) (k : sink.Ghosts K) (olds mids news : List (Site P K)) (was is : List Filling)
     → KeepsGoing p k olds was mids is

@@ -11,7 +11,7 @@ use Rattle.otn_base.specs.declared.kind.PortName.TheVariants as port
 use Rattle.node_moments.specs.NodeView.{NodeView, is_ready}
 use Rattle.network_laws.specs.Networks.{Network, IsNetwork}
 use Rattle.network_run.specs.Fibres.{HandedTo, FilledUp, LeftUnfilled, IsFilled}
-use Rattle.network_run.specs.Going.{AreFibres, Going, GoesOnThen, KeepsGoing, IsFull}
+use Rattle.network_run.specs.Going.{SameFibre, AreFibres, Going, GoesOnThen, KeepsGoing, IsFull}
 use Rattle.network_run.specs.Sites.{EachOne, SiteWent, SiteTurned, SiteStill, SameMoment, SameNode, IsTurned, AllSent, site_view}
 use Rattle.network_run.specs.declared.fibres.Filling.{Filling}
 use Rattle.network_run.specs.declared.site.Site.{Site}
@@ -42,32 +42,48 @@ each_twice One Two Both olds mids news both one two = record {
 module _ {P K : Type 0} (p : source.Ghosts P) (k : sink.Ghosts K) where
   -- ---- one call after another
 
+  all_same : (fillings : List Filling) → EachOne SameFibre fillings fillings
+  all_same fillings = each_none SameFibre fillings (λ one. refl)
+
   pub keeps_none : (sites : List (Site P K)) (fillings : List Filling) → KeepsGoing p k sites fillings sites fillings
-  keeps_none sites fillings network first net h = h
+  keeps_none sites fillings = record { nodes = refl; fibres = all_same fillings; goes = λ network first net h. h }
 
   pub keeps_twice : (olds mids news : List (Site P K)) (was then is : List Filling) → KeepsGoing p k olds was mids then → KeepsGoing p k mids then news is
       → KeepsGoing p k olds was news is
-  keeps_twice olds mids news was then is one two network first net h = two network first net (one network first net h)
+  keeps_twice olds mids news was then is one two = record {
+    nodes = two.nodes ∙ one.nodes;
+    fibres = each_twice SameFibre SameFibre SameFibre was then is (λ old mid new a b. b ∙ a) one.fibres two.fibres;
+    goes = λ network first net h. two.goes network first net (one.goes network first net h);
+  }
 
   pub keeps_went : (olds news : List (Site P K)) (fillings : List Filling) → EachOne (SiteWent p k) olds news → KeepsGoing p k olds fillings news fillings
-  keeps_went olds news fillings each network first net h = record {
-    fibres = h.fibres;
-    going = all_go_on p k network first olds news fillings net h.fibres
-        (each_as (SiteWent p k) (GoesOn p k) olds news (λ old new e. record { stands = e.stands; grows = e.grows }) each) h.going;
+  keeps_went olds news fillings each = record {
+    nodes = each.count;
+    fibres = all_same fillings;
+    goes = λ network first net h. record {
+      fibres = h.fibres;
+      going = all_go_on p k network first olds news fillings net h.fibres
+          (each_as (SiteWent p k) (GoesOn p k) olds news (λ old new e. record { stands = e.stands; grows = e.grows }) each) h.going;
+    };
   }
 
   pub keeps_turned : (olds news : List (Site P K)) (fillings : List Filling) → EachOne (SiteTurned p k) olds news
       → KeepsGoing p k olds fillings news fillings
-  keeps_turned olds news fillings each network first net h = record {
-    fibres = h.fibres;
-    going = all_go_on p k network first olds news fillings net h.fibres
-        (each_as (SiteTurned p k) (GoesOn p k) olds news (λ old new e. record { stands = e.stands; grows = e.grows }) each) h.going;
+  keeps_turned olds news fillings each = record {
+    nodes = each.count;
+    fibres = all_same fillings;
+    goes = λ network first net h. record {
+      fibres = h.fibres;
+      going = all_go_on p k network first olds news fillings net h.fibres
+          (each_as (SiteTurned p k) (GoesOn p k) olds news (λ old new e. record { stands = e.stands; grows = e.grows }) each) h.going;
+    };
   }
 
   pub keeps_still : (olds news : List (Site P K)) (fillings : List Filling) → EachOne (SiteStill p k) olds news → KeepsGoing p k olds fillings news fillings
-  keeps_still olds news fillings each network first net h = record {
-    fibres = h.fibres;
-    going = all_still p k network first olds news fillings each h.going;
+  keeps_still olds news fillings each = record {
+    nodes = each.count;
+    fibres = all_same fillings;
+    goes = λ network first net h. record { fibres = h.fibres; going = all_still p k network first olds news fillings each h.going };
   }
 
   -- ---- a fibre that is filled
@@ -75,13 +91,6 @@ module _ {P K : Type 0} (p : source.Ghosts P) (k : sink.Ghosts K) where
   same_span : (was is : Filling) (olds news : List (Site P K)) → IsFilled p k was is olds news → is.span ≡ was.span
   same_span was is olds news (inl up) = up.span
   same_span was is olds news (inr left) = left.span
-
-  pub keeps_filled : (olds news : List (Site P K)) (fillings : List Filling) (n : ℕ) (was is : Filling) → slice_get fillings n ≡ Some was
-      → IsFilled p k was is olds news → KeepsGoing p k olds fillings news (set fillings n is)
-  keeps_filled olds news fillings n was is at filled network first net h = record {
-    fibres = fibres_same p k network first fillings n was is at (same_span was is olds news filled) h.fibres;
-    going = fibre_filled p k network first olds news fillings n was is net h.fibres at filled h.going;
-  }
 
   -- what is seen of its line outputs is as it was, and so is its node
   record OutsKept (old new : Site P K) : Type 0 where
@@ -113,6 +122,31 @@ module _ {P K : Type 0} (p : source.Ghosts P) (k : sink.Ghosts K) where
   pub nodes_filled : (olds news : List (Site P K)) (was is : Filling) → IsFilled p k was is olds news → EachOne SameNode olds news
   nodes_filled olds news was is filled =
       each_as OutsKept SameNode olds news (λ old new e. e.node) (outs_filled olds news was is filled)
+
+  one_same : (fillings : List Filling) (n : ℕ) (was is : Filling) → slice_get fillings n ≡ Some was → is.span ≡ was.span
+      → EachOne SameFibre fillings (set fillings n is)
+  one_same fillings n was is at same = record {
+    count = length-set fillings n is;
+    each = λ i old new here now. elim (eqb_tells i n) as (λ t. SameFibre old new) [
+      | inl t ↦
+          let one : was ≡ old = same_Some was old (sym at ∙ ap (slice_get fillings) (sym t.1) ∙ here) in
+          let within = slice_get_within fillings n was at in
+          let two : is ≡ new = same_Some is new (sym (set_here fillings n is within) ∙ ap (slice_get (set fillings n is)) (sym t.1) ∙ now) in
+          ap (λ (x : Filling). x.span) (sym two) ∙ same ∙ ap (λ (x : Filling). x.span) one
+      | inr t ↦ ap (λ (x : Filling). x.span) (same_Some new old (sym now ∙ set_apart fillings n i is t.1 ∙ here))
+    ];
+  }
+
+  pub keeps_filled : (olds news : List (Site P K)) (fillings : List Filling) (n : ℕ) (was is : Filling) → slice_get fillings n ≡ Some was
+      → IsFilled p k was is olds news → KeepsGoing p k olds fillings news (set fillings n is)
+  keeps_filled olds news fillings n was is at filled = record {
+    nodes = (nodes_filled olds news was is filled).count;
+    fibres = one_same fillings n was is at (same_span was is olds news filled);
+    goes = λ network first net h. record {
+      fibres = fibres_same p k network first fillings n was is at (same_span was is olds news filled) h.fibres;
+      going = fibre_filled p k network first olds news fillings n was is net h.fibres at filled h.going;
+    };
+  }
 
   full_kept : (olds news : List (Site P K)) (f : Filling) → EachOne OutsKept olds news → IsFull p k olds f → IsFull p k news f
   full_kept olds news f each h =

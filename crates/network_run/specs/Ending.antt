@@ -15,8 +15,8 @@ use Rattle.run_laws.specs.SeenRuns.{Run}
 use Rattle.network_laws.specs.Networks.{FibreEnds, Network, IsNetwork, NetworkRun}
 use Rattle.stepped_networks.specs.Stepping.{FibresBrought}
 use Rattle.network_run.specs.Beginning.{AtFirst}
-use Rattle.network_run.specs.Going.{ends_of, OpensWithMore, AreFibres, GoesOnThen, IsFull}
-use Rattle.network_run.specs.Sites.{site_view, AllOver}
+use Rattle.network_run.specs.Going.{ends_of, SameFibre, OpensWithMore, AreFibres, GoesOnThen, IsFull}
+use Rattle.network_run.specs.Sites.{EachOne, site_view, AllOver}
 use Rattle.network_run.specs.declared.fibres.Filling.{Filling}
 use Rattle.network_run.specs.declared.site.Site.{Site}
 
@@ -72,9 +72,10 @@ EndsWell p k = (network : Network) (first : ℕ → BaysView) (olds news : List 
     → ((n : ℕ) (f : Filling) → slice_get fillings n ≡ Some f → f.whole ≡ true → IsFull p k olds f)
     → RanAsNetwork p k network first news numbers fillings
 
--- Of whatever network these are the nodes and the fibres, before the first turn, they have run as a run of it.
-abbrev pub RunsAsNetwork : {P K : Type 0} → source.Ghosts P → sink.Ghosts K → (olds : List (Site P K))
-    → (was : List Filling) → (news : List (Site P K)) → (numbers : List RunNumbers) → (is : List Filling) → Type 0
-RunsAsNetwork p k olds was news numbers is = (network : Network) (first : ℕ → BaysView) → IsNetwork network
-    → 1 ≤ length network.plans → AtFirst p k network first olds was
-    → RanAsNetwork p k network first news numbers is
+-- The fibres are the same, in the same order. Of whatever network these are the nodes and the fibres, before the first
+-- turn, they have run as a run of it.
+pub record RunsAsNetwork {P K : Type 0} (p : source.Ghosts P) (k : sink.Ghosts K) (olds : List (Site P K))
+    (was : List Filling) (news : List (Site P K)) (numbers : List RunNumbers) (is : List Filling) : Type 0 where
+  pub fibres : EachOne SameFibre was is
+  pub ran : (network : Network) (first : ℕ → BaysView) → IsNetwork network → 1 ≤ length network.plans
+      → AtFirst p k network first olds was → RanAsNetwork p k network first news numbers is

@@ -7,7 +7,7 @@ use Rattle.port_base.specs.declared.source.Source as source
 use Rattle.live_laws.specs.HandedIn.{grown}
 use Rattle.network_laws.specs.Networks.{FibreEnds, Network, IsNetwork}
 use Rattle.stepped_networks.specs.Stepping.{NodeState, NetworkStands}
-use Rattle.network_run.specs.Sites.{site_view}
+use Rattle.network_run.specs.Sites.{EachOne, site_view}
 use Rattle.network_run.specs.declared.fibres.Filling.{Filling}
 use Rattle.network_run.specs.declared.fibres.Span.{Span}
 use Rattle.network_run.specs.declared.site.Site.{Site}
@@ -22,6 +22,10 @@ pub record AreFibres (network : Network) (fillings : List Filling) : Type 0 wher
   pub has : (n : ℕ) (f : Filling) → slice_get fillings n ≡ Some f → Contains network.fibres (ends_of f.span)
   pub once : (m n : ℕ) (f g : Filling) → slice_get fillings m ≡ Some f → slice_get fillings n ≡ Some g
       → f.span.there ≡ g.span.there → f.span.into ≡ g.span.into → m ≡ n
+
+-- it leads from and to where it led, however it has been filled
+abbrev pub SameFibre : Filling → Filling → Type 0
+SameFibre old new = new.span ≡ old.span
 
 -- So many bytes its near end had got when the fibre was filled last: all that were handed over, and those before the
 -- first. The places at both ends tell theirs, and that of its far end was live first.
@@ -66,10 +70,13 @@ pub record GoesOnThen {P K : Type 0} (p : source.Ghosts P) (k : sink.Ghosts K) (
   pub fibres : AreFibres network fillings
   pub going : Going p k network first sites fillings
 
-abbrev pub KeepsGoing : {P K : Type 0} → source.Ghosts P → sink.Ghosts K → (olds : List (Site P K))
-    → (was : List Filling) → (news : List (Site P K)) → (is : List Filling) → Type 0
-KeepsGoing p k olds was news is = (network : Network) (first : ℕ → BaysView) → IsNetwork network
-    → GoesOnThen p k network first olds was → GoesOnThen p k network first news is
+-- No node and no fibre is gone or has come, and each fibre leads where it led; and whatever network stood, stands.
+pub record KeepsGoing {P K : Type 0} (p : source.Ghosts P) (k : sink.Ghosts K) (olds : List (Site P K))
+    (was : List Filling) (news : List (Site P K)) (is : List Filling) : Type 0 where
+  pub nodes : length news ≡ length olds
+  pub fibres : EachOne SameFibre was is
+  pub goes : (network : Network) (first : ℕ → BaysView) → IsNetwork network
+      → GoesOnThen p k network first olds was → GoesOnThen p k network first news is
 
 -- ---- fibres for which nothing waits
 
