@@ -17,7 +17,7 @@ use Rattle.run_laws.specs.SeenRuns.{Run}
 use Rattle.network_laws.specs.Networks.{FibreEnds, Network, IsNetwork, NetworkRun}
 use Rattle.stepped_networks.specs.Stepping.{NodeState, NodeEnded, FibresBrought}
 use Rattle.stepped_networks.proofs.Stepping.{ends_as_a_run}
-use Rattle.network_run.specs.Ending.{AreSettled, EndsWell, IsWholeFibre, RanAsNetwork}
+use Rattle.network_run.specs.Ending.{AreSettled, EndsWell, IsPartFibre, IsWholeFibre, RanAsNetwork}
 use Rattle.network_run.specs.Going.{ends_of, GoesOnThen, OpensWithMore, IsFull}
 use Rattle.network_run.specs.Sites.{site_view}
 use Rattle.network_run.specs.declared.fibres.Filling.{Filling}
@@ -117,6 +117,25 @@ module _ {P K : Type 0} (p : source.Ghosts P) (k : sink.Ghosts K) (network : Net
         left = e.left;
       }
 
+  part_fibre : (f : FibreEnds) → Contains network.fibres f → IsPartFibre f run
+  part_fibre f has =
+      let ends = net.ends f has in
+      let hand = went.going.stands.fibres f has in
+      let here = plan_at f.here ends.0 in
+      let there = plan_at f.there ends.1 in
+      let one = ended_at f.here here.0 here.1 in
+      let two = ended_at f.there there.0 there.1 in
+      record {
+        brought = hand.handed;
+        cut = hand.waiting;
+        went = record {
+          before = hand.went.before;
+          had = ap (λ (v : BaysView). (line_out_at v f.out).got) one.before ∙ hand.went.had;
+          has = ap (λ (views : List OutView). (get_or views f.out no_output).got) one.line_out ∙ hand.went.has;
+        };
+        came = ap (λ (v : BaysView). (line_in_at v f.into).left) two.before ∙ hand.came;
+      }
+
   whole_fibre : (n : ℕ) (f : Filling) → slice_get fillings n ≡ Some f → f.whole ≡ true → IsWholeFibre (ends_of f.span) run
   whole_fibre n f at is_whole =
       let all = full n f at is_whole in
@@ -170,6 +189,7 @@ module _ {P K : Type 0} (p : source.Ghosts P) (k : sink.Ghosts K) (network : Net
               subst (λ (q : Run). RunLeft q.plan q.before q.after e.takings (numbers_of_run n)) (sym (is i))
                   (subst (λ m. RunLeft (run i).plan (run i).before (run i).after e.takings (numbers_of_run m)) same e.left),
             ));
+        parts = λ f has. subst (IsPartFibre f) (sym r.1) (part_fibre f has);
         brought = subst (FibresBrought network) (sym r.1) r.2;
         whole = λ n f at is_whole. subst (IsWholeFibre (ends_of f.span)) (sym r.1) (whole_fibre n f at is_whole);
       }

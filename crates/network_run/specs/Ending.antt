@@ -1,5 +1,5 @@
 -- Believed: how a run of a network ends, and that it was one.
-use Rattle.std.specs.Prelude.{◌≡◌, ◌≤◌, ◌<◌, ℕ, true, List, [], length, Some, slice_get}
+use Rattle.std.specs.Prelude.{◌≡◌, ◌≤◌, ◌<◌, ℕ, true, List, [], ◌++◌, length, Some, slice_get}
 use Rattle.std.specs.List.{Contains}
 use Rattle.port_base.specs.Given.{Grew}
 use Rattle.port_base.specs.Views.{Live, BaysView, line_in_at, line_out_at}
@@ -41,6 +41,14 @@ pub record AreSettled {P K : Type 0} (p : source.Ghosts P) (k : sink.Ghosts K) (
 
 -- ---- a run of the network
 
+-- What its far end was given is what its near end got, or a part of that from the front.
+pub record IsPartFibre (f : FibreEnds) (run : ℕ → Run) : Type 0 where
+  pub brought : List ℕ
+  pub cut : List ℕ
+  pub went : Grew (line_out_at (run f.here).before f.out).got (line_out_at (run f.here).after f.out).got
+      (brought ++ cut)
+  pub came : (line_in_at (run f.there).before f.into).left ≡ Some brought
+
 -- What its far end was given is all that its near end got.
 pub record IsWholeFibre (f : FibreEnds) (run : ℕ → Run) : Type 0 where
   pub bytes : List ℕ
@@ -48,8 +56,8 @@ pub record IsWholeFibre (f : FibreEnds) (run : ℕ → Run) : Type 0 where
   pub came : (line_in_at (run f.there).before f.into).left ≡ Some bytes
 
 -- It was a run of this network, from places that were `first`, but that what was handed over to a line is counted as
--- there from the first, to places as they are, with these numbers: of each of its nodes. Over its fibres came what was
--- written to them, or a part of that from the front, and all over each that is told whole.
+-- there from the first, to places as they are, with these numbers: of each of its nodes. Over each of its fibres came
+-- what was written to it, or a part of that from the front, and all over each that is told whole.
 pub record RanAsNetwork {P K : Type 0} (p : source.Ghosts P) (k : sink.Ghosts K) (network : Network)
     (first : ℕ → BaysView) (news : List (Site P K)) (numbers : List RunNumbers) (fillings : List Filling)
     : Type 0 where
@@ -60,6 +68,7 @@ pub record RanAsNetwork {P K : Type 0} (p : source.Ghosts P) (k : sink.Ghosts K)
   pub after : (i : ℕ) (new : Site P K) → slice_get news i ≡ Some new → (it.run i).after ≡ site_view p k new
   pub left : (i : ℕ) (n : RunNumbers) → slice_get numbers i ≡ Some n → (takings : Takings)
       × RunLeft (it.run i).plan (it.run i).before (it.run i).after takings (numbers_of_run n)
+  pub parts : (f : FibreEnds) → Contains network.fibres f → IsPartFibre f it.run
   pub brought : FibresBrought network it.run
   pub whole : (n : ℕ) (f : Filling) → slice_get fillings n ≡ Some f → f.whole ≡ true
       → IsWholeFibre (ends_of f.span) it.run
