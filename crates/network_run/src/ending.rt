@@ -1,5 +1,6 @@
 // How a run of a network ends.
-ghost use Rattle.std.specs.Prelude.{◌≡◌, ◌≤◌, [], IfOk};
+ghost use Rattle.std.specs.Prelude.{◌≡◌, ◌≤◌, [], IfOk, IsOk, length};
+ghost use Rattle.std.specs.Vec.{vec_capacity};
 ghost use Rattle.device_model.specs.RunNumbers.{numbers_of_run};
 ghost use Rattle.network_run.specs.Ending.{AreSettled, IsSettled};
 ghost use Rattle.network_run.specs.Sites.{AllOver};
@@ -10,14 +11,18 @@ use otn_base::Memory;
 use port_base::{Sink, Source};
 
 /// Settles all nodes, which are past their last turns, and puts the numbers of each into the empty list. It answers
-/// `Memory` where that has no room for them, and there is no memory.
+/// `Memory` only where that has no room for them, and there is no memory.
 pub fn settle_all<P: Source, K: Sink>(
     sites: &mut Vec<Site<P, K>>,
     room: Vec<RunNumbers>,
 ) -> Result<Vec<RunNumbers>, Memory>
     requires over { AllOver sites.old.items }
     requires empty { room.items ≡ [] }
-    ensures { IfOk result (λ numbers. AreSettled P.Source K.Sink sites.old.items sites.new.items numbers.items) }
+    ensures settled { IfOk result (λ numbers. AreSettled P.Source K.Sink sites.old.items sites.new.items
+        numbers.items) }
+
+    // where the list has room for all, it asks for no memory
+    ensures enough { length sites.old.items ≤ vec_capacity room → IsOk result }
 {
     let mut numbers = room;
     for i in 0..sites.len() {
