@@ -1,3 +1,4 @@
 mod Counts
+mod Shown
 mod Slots
 mod Tallies

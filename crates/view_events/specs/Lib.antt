@@ -4,3 +4,4 @@ pub mod LineEvents
 pub mod TributaryEvents
 pub mod SlotEvents
 pub mod EventText
+pub mod Shown

@@ -6,6 +6,7 @@ ghost use Rattle.view_events.specs.declared.said.MsiSaid.{MsiSaid};
 ghost use Rattle.view_events.specs.declared.slot_events.TheConstants.{SLOTS};
 ghost use Rattle.view_events.specs.LineEvents.{LineStands};
 ghost use Rattle.view_events.specs.SlotEvents.{SlotStands};
+ghost use Rattle.view_events.specs.Shown.{IsToldAt, IsAdded, AfterLine};
 ghost use Rattle.view_events.specs.EventText.{turn_events_text, msi_events_text, line_sums_text, sums_text};
 
 use crate::event_text::{put_line_event, put_line_sums, put_msi_event};
@@ -40,6 +41,7 @@ impl Events {
     pub fn new(alloc: Global) -> Events
         ensures line { LineStands [] result.line }
         ensures slots { SlotStands [] result.slots }
+        ensures tributaries { result.tributaries.items ≡ [] }
     {
         Events {
             alloc,
@@ -58,6 +60,7 @@ impl Events {
         ensures line { IfOk result (λ _. (past : List TurnSaid) → LineStands past self.old.line
             → LineStands (said ∷ past) self.new.line) }
         ensures slots { IfOk result (λ _. self.new.slots ≡ self.old.slots) }
+        ensures tributaries { self.new.tributaries ≡ self.old.tributaries }
     {
         let turn = said.number;
         put_line_event(out, turn, self.line.alignment_event(said.alignment))?;
@@ -76,6 +79,7 @@ impl Events {
         ensures slots { IfOk result (λ _. (past : List MsiSaid) → SlotStands past self.old.slots
             → SlotStands (said ∷ past) self.new.slots) }
         ensures line { IfOk result (λ _. self.new.line ≡ self.old.line) }
+        ensures tributaries { self.new.tributaries ≡ self.old.tributaries }
     {
         if self.slots.is_event(said) {
             put_msi_event(out, said)?;
@@ -85,8 +89,11 @@ impl Events {
     }
 
     /// Takes a line of the view, with its LF, and appends the events that it brings. The first line and the last are
-    /// appended as they stand.
-    pub fn take_line(&mut self, with_end: &[u8], out: &mut Vec<u8>) -> Result<(), Memory> {
+    /// appended as they stand. Of the tributaries that were shown one is told at most, or one is added at the end: all
+    /// others stay as they are, in their places.
+    pub fn take_line(&mut self, with_end: &[u8], out: &mut Vec<u8>) -> Result<(), Memory>
+        ensures { IfOk result (λ _. AfterLine self.old.tributaries.items self.new.tributaries.items) }
+    {
         let line = without_end(with_end);
         match word_of(line, 0) {
             b"turn" => {
@@ -104,7 +111,9 @@ impl Events {
     }
 
     // Takes the line of a tributary: of one that was shown before, or of a new one.
-    fn take_tributary(&mut self, line: &[u8], out: &mut Vec<u8>) -> Result<(), Memory> {
+    fn take_tributary(&mut self, line: &[u8], out: &mut Vec<u8>) -> Result<(), Memory>
+        ensures { IfOk result (λ _. AfterLine self.old.tributaries.items self.new.tributaries.items) }
+    {
         match self.place_of(line) {
             Some(i) => Ok(self.tell_known(i, line, out)?),
             None => self.tell_new(line, out),
@@ -127,6 +136,7 @@ impl Events {
     // Tells of a tributary that was shown before.
     fn tell_known(&mut self, i: usize, line: &[u8], out: &mut Vec<u8>) -> Result<(), AllocError>
         requires { i < vec_len self.old.tributaries }
+        ensures { IfOk result (λ _. IsToldAt i self.old.tributaries.items self.new.tributaries.items) }
     {
         let said = tributary_said(self.turn, line);
         let slots = slots_said(line);
@@ -135,7 +145,9 @@ impl Events {
     }
 
     // Tells of a new one.
-    fn tell_new(&mut self, line: &[u8], out: &mut Vec<u8>) -> Result<(), Memory> {
+    fn tell_new(&mut self, line: &[u8], out: &mut Vec<u8>) -> Result<(), Memory>
+        ensures { IfOk result (λ _. IsAdded self.old.tributaries.items self.new.tributaries.items) }
+    {
         let said = tributary_said(self.turn, line);
         let label = label_said(self.alloc, line)?;
         let one = Tributary::first_told(label, said, self.line.is_whole(), out)?;
