@@ -15,8 +15,8 @@ OWN = ('stdin', 'stdout', 'args', 'status', 'data', 'out/incremental')
 class Task:
     """The proof of one crate, under way."""
 
-    def __init__(self, name, process, jobs, log):
-        self.name, self.process, self.jobs, self.log = name, process, jobs, log
+    def __init__(self, name, process, log):
+        self.name, self.process, self.log = name, process, log
         self.begun = time.monotonic()
 
     def took(self):
@@ -72,32 +72,20 @@ class Prover:
                       key=lambda name: -self.height[name])
 
     def begin_ready(self):
-        ready = self.ready()
-        free = self.processors - sum(task.jobs for task in self.running.values())
-        for place, name in enumerate(ready):
-            if free < 1:
-                break
-            jobs = max(1, free // (len(ready) - place))
-            if place == 0 and self.is_behind(name):
-                jobs = max(jobs, min(2, free))
-            self.begin(name, jobs)
-            free -= jobs
+        free = self.processors - len(self.running)
+        for name in self.ready()[:max(0, free)]:
+            self.begin(name)
 
-    def is_behind(self, name):
-        """Whether the chain above it takes longer than all that is left, shared out."""
-        work = sum(self.checkout.expected(other) for other in self.todo if other not in self.done)
-        return self.height[name] > 0.8 * work / self.processors
-
-    def begin(self, name, jobs):
+    def begin(self, name):
         copy = self.copy_of(name)
         where = os.path.join(copy, 'crates', name)
         has_page = os.path.exists(os.path.join(self.checkout.top, 'man', f'{name}.1'))
-        words = ['rt', 'run', '--jobs', str(jobs), '--', '--help' if has_page else '--version'] \
-            if self.checkout.is_program(name) else ['rt', 'lib', '--jobs', str(jobs)]
+        words = ['rt', 'run', '--jobs', '1', '--', '--help' if has_page else '--version'] \
+            if self.checkout.is_program(name) else ['rt', 'lib', '--jobs', '1']
         log = open(os.path.join(copy, 'log'), 'w+', encoding='utf-8', errors='replace')
         process = subprocess.Popen(words, cwd=where, stdin=subprocess.DEVNULL, stdout=log, stderr=log,
                                    start_new_session=True)
-        self.running[name] = Task(name, process, jobs, log)
+        self.running[name] = Task(name, process, log)
 
     def copy_of(self, name):
         """A copy of the checkout for one proof. rt works on one crate of a checkout at a time; in a copy it waits for no
@@ -141,7 +129,7 @@ class Prover:
         self.checkout.keep_mark(task.name)
         shutil.rmtree(copy, ignore_errors=True)
         self.done.add(task.name)
-        self.measured.append((task.took() * task.jobs ** 0.5, self.checkout.expected(task.name)))
+        self.measured.append((task.took(), self.checkout.expected(task.name)))
         rest = minutes(self.left()) + ' left' if len(self.done) < len(self.todo) else 'all proved'
         self.say(f'[{len(self.done)}/{len(self.todo)}] proved: {task.name}, {task.took():.0f} s; {rest}')
         return True
@@ -163,7 +151,7 @@ class Prover:
     def left(self):
         names = [name for name in self.todo if name not in self.done]
         pace = self.pace()
-        running = {name: max(5, self.checkout.expected(name) / task.jobs ** 0.5 - task.took() / pace)
+        running = {name: max(5, self.checkout.expected(name) - task.took() / pace)
                    for name, task in self.running.items()}
         return pace * left(self.checkout, names, running, self.height, self.processors)
 
