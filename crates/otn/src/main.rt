@@ -24,8 +24,6 @@ use std::fs::File;
 use std::process::ExitCode;
 
 mod pages;
-#[cfg(test)]
-mod tests;
 
 fn main(rt: HostRuntime) -> ExitCode {
     let _standard = take_standard(&rt);

@@ -1,10 +1,13 @@
-//! Tests of the commands, over `line_tool`: their words, commands over a line, the report of a run, and the trial.
+//! Tests of the commands, over `line_tool`: their words, what is explained, commands over a line, the report of a run,
+//! and the trial.
 #![tactic(auto)]
 
 #[cfg(test)]
 mod check;
 #[cfg(test)]
 mod damage;
+#[cfg(test)]
+mod explained;
 #[cfg(test)]
 mod line_runs;
 #[cfg(test)]

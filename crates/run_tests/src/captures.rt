@@ -1,6 +1,5 @@
-// Captures among the clients of a run, and what is explained.
-use explain_command::explanation;
-use input_reasons::{TextEnd, look_at_capture, look_at_text, reason_of_line};
+// Captures among the clients of a run.
+use crate::plan_runs::{FROM_LINE, LINE_ROOM, TO_LINE};
 use line_tool::{Status, run};
 use otn_base::Memory;
 use otn_ports::{
@@ -8,7 +7,6 @@ use otn_ports::{
     OutPlaceOf, OutPort, Rack, Sink, Source,
 };
 use pcap_packets::{PcapSink, PcapSource};
-use plan_reasons::refusal_of;
 use std::alloc::Global;
 use std::test::Fail;
 
@@ -19,23 +17,12 @@ const CAPTURE: [u8; 58] = [
     0, 0,
 ];
 
-const THERE: &str = r#"turns = 8
-connection = [{ name = "a", kind = "odu0", from = { client = 0 }, to = { line = 0, port = 1, slots = [3] } }]
-"#;
-
-const BACK: &str = r#"turns = 8
-connection = [{ name = "b", kind = "odu0", from = { line = 0, port = 1, slots = [3] }, to = { client = 0 } }]
-"#;
-
 const TWO: &str = r#"turns = 8
 connection = [
   { name = "a", kind = "odu0", from = { client = 0 }, to = { line = 0, port = 1, slots = [1] } },
   { name = "b", kind = "odu0", from = { client = 1 }, to = { line = 0, port = 2, slots = [2] } },
 ]
 "#;
-
-// Bytes of 64 frames, which 8 turns of a line have.
-const LINE_ROOM: usize = 64 * 16_320;
 
 // What these words answer over these places, with this plan, and what they report.
 fn ran<I: Source, O: Sink>(
@@ -80,7 +67,7 @@ fn a_capture_there_and_back(rt: HostRuntime) -> Result<(), Fail> {
     bays.set_client_in(0, InPlace::Live(InPort::Boxed(port), 0));
     let room = OutPort::Held(line_room(alloc)?);
     bays.set_line_out(0, OutPlace::Live(room, 0));
-    let (status, report) = ran(alloc, &["run", "--pcap"], THERE, &mut bays)?;
+    let (status, report) = ran(alloc, &["run", "--pcap"], TO_LINE, &mut bays)?;
     assert_eq!(rt; status, Status::Unfinished);
     let wanted =
         b"turns 8\nline-out 0 frames 64 live\nclient-in 0 packets 1 bad 2 live\nconnection a client\nstatus unfinished\n";
@@ -90,7 +77,7 @@ fn a_capture_there_and_back(rt: HostRuntime) -> Result<(), Fail> {
     places.set_line_in(0, InPlaceOf::Live(MemSource::new(line), 0));
     let sink = PcapSink::new(alloc, MemSink::with_room(alloc, 1000)?)?;
     places.set_client_out(0, OutPlaceOf::Live(sink, 0));
-    let (status, _report) = ran(alloc, &["run", "--pcap"], BACK, &mut places)?;
+    let (status, _report) = ran(alloc, &["run", "--pcap"], FROM_LINE, &mut places)?;
     assert_eq!(rt; status, Status::Done);
     match places.client_out(0) {
         OutPlaceOf::Live(sink, _) => {
@@ -136,49 +123,5 @@ fn a_capture_that_fails_leaves_the_others(rt: HostRuntime) -> Result<(), Fail> {
     let wanted =
         b"turns 8\nline-out 0 frames 64 live\nclient-in 0 packets 1 spent live\nclient-in 1 packets 0 open dead\nconnection a client\nconnection b client\nstatus cut\n";
     assert_eq!(rt; report.as_slice(), wanted.as_slice());
-    Ok(())
-}
-
-const SLOTS_FALL: &str = r#"turns = 16
-connection = [
-  { name = "north", kind = "odu0", from = { client = 0 }, to = { line = 0, port = 1, slots = [1] } },
-  { name = "south", kind = "flex", from = { client = 1 }, to = { line = 0, port = 2, slots = [8, 2] } },
-]
-"#;
-
-#[test]
-fn a_plan_that_is_refused(rt: HostRuntime) -> Result<(), Fail> {
-    let refusal = refusal_of(rt.alloc(), SLOTS_FALL.as_bytes())?.ok_or("accepted")?;
-    assert_eq!(rt; (refusal.rule.code(), refusal.place), (10, 2));
-    assert_eq!(rt; refusal.at.as_str(), "connection 2 (south)");
-    let wanted = "to: slots = [8, 2] do not rise; write [2, 8]";
-    assert_eq!(rt; refusal.reason.as_str(), wanted);
-    Ok(())
-}
-
-#[test]
-fn inputs_that_are_none(rt: HostRuntime) -> Result<(), Fail> {
-    let alloc = rt.alloc();
-    let text = b"aabb\naab\nccdd\n";
-    let look = look_at_text(alloc, MemSource::new(Vec::from_slice(alloc, text)?))?;
-    assert_eq!(rt; look.packets.count, 1);
-    assert_eq!(rt; look.end, TextEnd::Bad(2));
-    let mut source = MemSource::new(Vec::from_slice(alloc, text)?);
-    let reason = reason_of_line(alloc, &mut source, 2)?;
-    let wanted = "it has 3 digits, an odd number, and a byte has two";
-    assert_eq!(rt; reason.as_str(), wanted);
-    let mut source = MemSource::new(Vec::from_slice(alloc, b"\x0A\x0D\x0D\x0A")?);
-    assert!(rt; look_at_capture(alloc, &mut source)?.fault.is_some());
-    Ok(())
-}
-
-#[test]
-fn words_that_are_nearly_a_command(rt: HostRuntime) -> Result<(), Fail> {
-    let mut words = Vec::new(rt.alloc());
-    for word in ["pull", "1", "1,", "2"] {
-        words.push(String::from_str(rt.alloc(), word)?)?;
-    }
-    let page = explanation(&rt, &words, "")?;
-    assert!(rt; page.contains("  a list has commas and no blank: write otn pull 1 1,2\n"));
     Ok(())
 }
