@@ -6,11 +6,11 @@ ghost use Rattle.std.specs.Prelude.{All};
 ghost use Rattle.program_words.specs.Files.{IsInput, IsOutput};
 
 use explain_command::explanation;
-use line_tool::{NumberChooser, Status, order_of, run};
+use line_tool::{Status, order_of, run};
 use otn_base::Memory;
 use otn_ports::{
-    Chooser, FileSink, FileSource, FirstReady, InPlaceOf, ListedSource, OutPlaceOf, Rack,
-    ReadBlock, Sink, Source, StdoutSink,
+    FileSink, FileSource, InPlaceOf, ListedSource, OutPlaceOf, Rack, ReadBlock, Sink, Source,
+    StdoutSink,
 };
 use pages::text_of;
 use pcap_packets::{PcapSink, PcapSource};
@@ -19,11 +19,13 @@ use program_words::{
     given_words, input_files, made_output, number_of, opened_input, opens_files, output_files,
     page_of, plan_source, plan_text, reads_plan, status_of_page, take_standard,
 };
+use serving_order::ServingOrder;
 use std::fs;
 use std::fs::File;
 use std::process::ExitCode;
 
 mod pages;
+mod serving_order;
 
 fn main(rt: HostRuntime) -> ExitCode {
     let _standard = take_standard(&rt);
@@ -65,16 +67,7 @@ fn over_files(rt: &HostRuntime, words: &[String]) -> Result<Status, Memory> {
         make_outputs(rt, &output_files(alloc, words)?, &read, &mut bays)?;
     }
     let mut plan = plan_source(alloc, text)?;
-    Ok(match order_of(words) {
-        Some(number) => answer(
-            rt,
-            words,
-            &mut plan,
-            &mut bays,
-            &mut NumberChooser::new(number),
-        ),
-        None => answer(rt, words, &mut plan, &mut bays, &mut FirstReady::new()),
-    })
+    Ok(answer(rt, words, &mut plan, &mut bays))
 }
 
 // The plan's text, where the words' command reads it: the first file that is opened, and one of those that are read.
@@ -198,16 +191,16 @@ fn make_output(
     Ok(())
 }
 
-// Answers the words over this plan, these places and standard output.
-fn answer<I: Source, O: Sink, C: Chooser>(
+// Answers the words over this plan, these places and standard output, in the order that the words say.
+fn answer<I: Source, O: Sink>(
     rt: &HostRuntime,
     words: &[String],
     plan: &mut ListedSource,
     bays: &mut Rack<I, O>,
-    chooser: &mut C,
 ) -> Status {
+    let mut order = ServingOrder::of(order_of(words));
     let mut report = StdoutSink::of(rt.stdout());
-    run(rt.alloc(), words, plan, bays, chooser, &mut report)
+    run(rt.alloc(), words, plan, bays, &mut order, &mut report)
 }
 
 // The file of an input, which is then one of those that are read: None where there is none. One that cannot be opened
