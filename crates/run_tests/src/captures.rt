@@ -1,5 +1,5 @@
 // Captures among the clients of a run.
-use crate::plan_runs::{FROM_LINE, LINE_ROOM, TO_LINE};
+use crate::plan_runs::{FROM_LINE, LINE_ROOM, TO_LINE, text_of};
 use line_tool::{Status, run};
 use otn_base::Memory;
 use otn_ports::{
@@ -58,6 +58,14 @@ fn line_file(alloc: Global, places: &Bays) -> Result<Vec<u8>, Memory> {
     }
 }
 
+// What a live output wrote of captures.
+fn captured(place: &OutPlaceOf<PcapSink<MemSink>>) -> Option<&[u8]> {
+    match place {
+        OutPlaceOf::Live(sink, _) => sink.inner().kept(),
+        _ => None,
+    }
+}
+
 #[test]
 fn a_capture_there_and_back(rt: HostRuntime) -> Result<(), Fail> {
     let alloc = rt.alloc();
@@ -68,23 +76,23 @@ fn a_capture_there_and_back(rt: HostRuntime) -> Result<(), Fail> {
     let room = OutPort::Held(line_room(alloc)?);
     bays.set_line_out(0, OutPlace::Live(room, 0));
     let (status, report) = ran(alloc, &["run", "--pcap"], TO_LINE, &mut bays)?;
-    assert_eq!(rt; status, Status::Unfinished);
-    let wanted =
-        b"turns 8\nline-out 0 frames 64 live\nclient-in 0 packets 1 bad 2 live\nconnection a client\nstatus unfinished\n";
-    assert_eq!(rt; report.as_slice(), wanted.as_slice());
+    assert_eq!(rt;
+        (status, text_of(&report)),
+        (
+            Status::Unfinished,
+            "turns 8\nline-out 0 frames 64 live\nclient-in 0 packets 1 bad 2 live\nconnection a client\nstatus unfinished\n"
+        )
+    );
     let line = line_file(alloc, &bays)?;
     let mut places: Rack<MemSource, PcapSink<MemSink>> = Rack::new(alloc)?;
     places.set_line_in(0, InPlaceOf::Live(MemSource::new(line), 0));
     let sink = PcapSink::new(alloc, MemSink::with_room(alloc, 1000)?)?;
     places.set_client_out(0, OutPlaceOf::Live(sink, 0));
     let (status, _report) = ran(alloc, &["run", "--pcap"], FROM_LINE, &mut places)?;
-    assert_eq!(rt; status, Status::Done);
-    match places.client_out(0) {
-        OutPlaceOf::Live(sink, _) => {
-            assert_eq!(rt; sink.inner().kept(), Some(&CAPTURE[..42]));
-        }
-        _ => assert!(rt; false),
-    }
+    assert_eq!(rt;
+        (status, captured(places.client_out(0))),
+        (Status::Done, Some(&CAPTURE[..42]))
+    );
     Ok(())
 }
 
@@ -116,12 +124,13 @@ fn beside_a_capture(
 fn a_capture_that_fails_leaves_the_others(rt: HostRuntime) -> Result<(), Fail> {
     let (well, _report, own) = beside_a_capture(&rt, &[])?;
     let (cut, report, same) = beside_a_capture(&rt, &[1])?;
-    assert_eq!(rt; well, Status::Done);
-    assert_eq!(rt; cut, Status::Cut);
-    assert_eq!(rt; own.len(), 64 * 1_904);
-    assert_eq!(rt; own.as_slice(), same.as_slice());
-    let wanted =
-        b"turns 8\nline-out 0 frames 64 live\nclient-in 0 packets 1 spent live\nclient-in 1 packets 0 open dead\nconnection a client\nconnection b client\nstatus cut\n";
-    assert_eq!(rt; report.as_slice(), wanted.as_slice());
+    assert_eq!(rt;
+        (well, cut, own.len(), own == same),
+        (Status::Done, Status::Cut, 64 * 1_904, true)
+    );
+    assert_eq!(rt;
+        text_of(&report),
+        "turns 8\nline-out 0 frames 64 live\nclient-in 0 packets 1 spent live\nclient-in 1 packets 0 open dead\nconnection a client\nconnection b client\nstatus cut\n"
+    );
     Ok(())
 }

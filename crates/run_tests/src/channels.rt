@@ -51,20 +51,20 @@ fn channels_there_and_back(rt: HostRuntime) -> Result<(), Fail> {
         ),
     ] {
         let (answer, wrote, line) = bundled(alloc, failing)?;
-        assert_eq!(rt; answer, status);
-        assert_eq!(rt; text_of(&wrote), report);
+        assert_eq!(rt; (answer, text_of(&wrote)), (status, report));
         let mut places: Places = Rack::new(alloc)?;
         places.set_line_in(0, input(alloc, line, FRAME, 0)?);
         places.set_client_out(0, output(alloc, 100, 0)?);
         places.set_client_out(5, output(alloc, 100, 0)?);
         let (answer, wrote) = told(alloc, "unbundle 8", &mut places)?;
-        assert_eq!(rt; answer, Status::Done);
-        assert_eq!(rt; text_of(&wrote), back);
-        assert_eq!(rt;
-            text_of(&kept(alloc, places.client_out(0))?),
-            "1111\n2222\n"
+        let got = (
+            kept(alloc, places.client_out(0))?,
+            kept(alloc, places.client_out(5))?,
         );
-        assert_eq!(rt; text_of(&kept(alloc, places.client_out(5))?), second);
+        assert_eq!(rt;
+            (answer, text_of(&wrote), text_of(&got.0), text_of(&got.1)),
+            (Status::Done, back, "1111\n2222\n", second)
+        );
     }
     Ok(())
 }

@@ -77,10 +77,14 @@ fn a_client_hears_its_own_slot_alone(rt: HostRuntime) -> Result<(), Fail> {
     // Payload and JC1 of slot 4; or its MSI byte, and JC6 of slot 8.
     let some = [(19, 0xFF), (3 * FRAME + 15, 0x0F)];
     let others = [(5 * FRAME + 12_254, 0x40), (7 * FRAME + 8_174, 0xFF)];
-    assert!(rt; hears(alloc, &file, &some, TWO_WRONG)?);
-    assert!(rt; hears(alloc, &file, &others, TWO_WRONG)?);
     // JC3 of its own, in turn 5 alone.
-    assert!(rt; hears(alloc, &file, &[(JC3 + 4 * TURN, 1)], ONE_WRONG)?);
+    let own = [(JC3 + 4 * TURN, 1)];
+    let heard = [
+        hears(alloc, &file, &some, TWO_WRONG)?,
+        hears(alloc, &file, &others, TWO_WRONG)?,
+        hears(alloc, &file, &own, ONE_WRONG)?,
+    ];
+    assert_eq!(rt; heard, [true; 3]);
     Ok(())
 }
 
@@ -102,7 +106,10 @@ fn a_lost_multiframe_is_reported(rt: HostRuntime) -> Result<(), Fail> {
         (first + 3 * FRAME, 0x80),
         (first + 4 * FRAME, 0x80),
     ];
-    assert!(rt; hears(alloc, &file, &four, NONE_LOST)?);
-    assert!(rt; hears(alloc, &file, &five, ONE_LOST)?);
+    let heard = [
+        hears(alloc, &file, &four, NONE_LOST)?,
+        hears(alloc, &file, &five, ONE_LOST)?,
+    ];
+    assert_eq!(rt; heard, [true; 2]);
     Ok(())
 }

@@ -116,12 +116,15 @@ fn boxed_ports_are_called_in_order_and_let_go(rt: HostRuntime) -> Result<(), Fai
         bays.set_client_in(0, InPlace::Live(InPort::Boxed(client), 0));
         bays.set_line_out(0, OutPlace::Live(OutPort::Boxed(line), 0));
         let ran = carried(alloc, plan_of(alloc, plan)?, &mut bays, REPORT_ROOM, last)?;
-        assert_eq!(rt; ran.status, Status::Done);
-        assert_eq!(rt; text_of(&ran.report), report);
-        assert_eq!(rt; first.get(), name);
+        assert_eq!(rt;
+            (ran.status, text_of(&ran.report), first.get()),
+            (Status::Done, report, name)
+        );
         // One count is this test's own, and one is of each port that is still there.
-        assert_eq!(rt; Rc::strong_count(&first), ports + 1);
-        assert_eq!(rt; is_empty(bays.client_in(0)), ports == 1);
+        assert_eq!(rt;
+            (Rc::strong_count(&first), is_empty(bays.client_in(0))),
+            (ports + 1, ports == 1)
+        );
     }
     Ok(())
 }

@@ -60,10 +60,9 @@ fn each_turn_says_its_groups_and_what_is_left(rt: HostRuntime) -> Result<(), Fai
         (50, 0xBF, 0x31, 0, 0),
     ] {
         let [one, two, _] = said(&file, frame);
-        assert_eq!(rt; (one, two), (first, second), "in frame {frame}");
         assert_eq!(rt;
-            said_of_rest(&file, frame),
-            [0, rest, check],
+            ([one, two], said_of_rest(&file, frame)),
+            ([first, second], [0, rest, check]),
             "in frame {frame}"
         );
     }
@@ -112,17 +111,21 @@ connection = [{ name = "c", kind = "flex", from = { line = 0, port = 1, slots = 
 fn least_and_most_go_through_a_second_node(rt: HostRuntime) -> Result<(), Fail> {
     let alloc = rt.alloc();
     let file = file_of(alloc, ALL_SLOTS_FULL, LINE_ROOM)?;
-    assert_eq!(rt; said(&file, 15), [0xEE, 0x03, 0xDD]);
+    let there = said(&file, 15);
     let (_, on) = switched(alloc, ALL_SLOTS_ON, file)?;
-    assert_eq!(rt; said(&on, 31), [0, 0, 0]);
-    assert_eq!(rt; said(&on, 39), [0xEE, 0x03, 0xDD]);
+    let full = [0xEE, 0x03, 0xDD];
+    assert_eq!(rt;
+        (there, said(&on, 31), said(&on, 39)),
+        (full, [0, 0, 0], full)
+    );
     let file = file_of(alloc, ALL_SLOTS_ONE_GROUP, LINE_ROOM)?;
-    assert_eq!(rt; said(&file, 15), [0xAA, 0xAA, 0x56]);
-    assert_eq!(rt; said(&file, 23), [0x00, 0x04, 0x34]);
+    let there = [said(&file, 15), said(&file, 23)];
     let (_, on) = switched(alloc, ALL_SLOTS_ON, file)?;
-    assert_eq!(rt; said(&on, 31), [0, 0, 0]);
-    assert_eq!(rt; said(&on, 39), [0xAA, 0xAA, 0x56]);
-    assert_eq!(rt; said(&on, 47), [0x00, 0x04, 0x34]);
+    let one = [[0xAA, 0xAA, 0x56], [0x00, 0x04, 0x34]];
+    assert_eq!(rt;
+        (there, said(&on, 31), [said(&on, 39), said(&on, 47)]),
+        (one, [0, 0, 0], one)
+    );
     Ok(())
 }
 
@@ -148,9 +151,15 @@ fn a_slot_is_free_after_a_stop(rt: HostRuntime) -> Result<(), Fail> {
     let alloc = rt.alloc();
     let file = file_of(alloc, STOPPING, LINE_ROOM)?;
     // Data first stands in turn 3.
-    assert_eq!(rt; payload_set(&file, 0, 16), 0);
-    assert!(rt; payload_set(&file, 16, 16) > 0);
-    assert_eq!(rt; payload_set(&file, 32, 32), 0);
+    let carries = payload_set(&file, 16, 16) > 0;
+    assert_eq!(rt;
+        (
+            payload_set(&file, 0, 16),
+            carries,
+            payload_set(&file, 32, 32)
+        ),
+        (0, true, 0)
+    );
     assert_eq!(rt; said(&file, 26), [0xED, 0x00, 0x39]);
     for frame in 32..64_u16 {
         assert_eq!(rt; said(&file, frame), [0, 0, 0], "in frame {frame}");
@@ -197,9 +206,11 @@ fn a_line_has_lead_in_and_rest(rt: HostRuntime) -> Result<(), Fail> {
         let line = input(alloc, with_lead_in_and_rest(alloc)?, 4096, 0)?;
         let client = output(alloc, 1000, 0)?;
         let (ran, text) = from_line(alloc, plan, line, client)?;
-        assert_eq!(rt; ran.status, status);
-        assert_eq!(rt; text_of(&ran.report), report);
-        assert_eq!(rt; text_of(&text), text_of(&packets(alloc, 1, 60)?));
+        let sent = packets(alloc, 1, 60)?;
+        assert_eq!(rt;
+            (ran.status, text_of(&ran.report), text_of(&text)),
+            (status, report, text_of(&sent))
+        );
     }
     Ok(())
 }
@@ -226,9 +237,10 @@ fn an_empty_line_and_a_short_one_are_ais(rt: HostRuntime) -> Result<(), Fail> {
         let (told, on) = switched(alloc, LINE_TO_LINE, file)?;
         assert_eq!(rt; text_of(&told), report);
         // 15,168 bytes of AIS are emitted from turn 4 on, and go to the line from turn 5 on.
-        assert_eq!(rt; said(&on, 26), [0, 0, 0]);
-        assert_eq!(rt; said(&on, 34), [0xED, 0x03, 0x2E]);
-        assert_eq!(rt; said(&on, 42), [0xED, 0x00, 0x39]);
+        assert_eq!(rt;
+            (said(&on, 26), said(&on, 34), said(&on, 42)),
+            ([0, 0, 0], [0xED, 0x03, 0x2E], [0xED, 0x00, 0x39])
+        );
     }
     Ok(())
 }
@@ -252,14 +264,26 @@ fn a_line_of_32_slots_goes_to_one_of_8(rt: HostRuntime) -> Result<(), Fail> {
     let line = output(alloc, 256 * FRAME, 0)?;
     let (ran, file) = to_line(alloc, THIRTY_TWO_SLOTS, client, line, REPORT_ROOM, false)?;
     assert_eq!(rt;
-        text_of(&ran.report),
-        "turns 8\nline-out 0 frames 256 live\nclient-in 0 packets 1 spent live\nconnection a client\nstatus done\n"
+        (text_of(&ran.report), file.len()),
+        (
+            "turns 8\nline-out 0 frames 256 live\nclient-in 0 packets 1 spent live\nconnection a client\nstatus done\n",
+            256 * FRAME
+        )
     );
-    assert_eq!(rt; file.len(), 256 * FRAME);
-    assert_eq!(rt; said(&file, 16), [0x00, 0x03, 0x17]);
-    assert_eq!(rt; said(&file, 48), [0xED, 0x03, 0x2E]);
-    assert_eq!(rt; said(&file, 80), [0xED, 0x00, 0x39]);
-    assert_eq!(rt; byte_at(&file, 18, 4, 15), 0x93);
+    assert_eq!(rt;
+        (
+            said(&file, 16),
+            said(&file, 48),
+            said(&file, 80),
+            byte_at(&file, 18, 4, 15)
+        ),
+        (
+            [0x00, 0x03, 0x17],
+            [0xED, 0x03, 0x2E],
+            [0xED, 0x00, 0x39],
+            0x93
+        )
+    );
     let (told, on) = switched(alloc, BOTH_KINDS, file)?;
     assert_eq!(rt;
         text_of(&told),
@@ -298,19 +322,23 @@ fn a_scrambled_line_is_read_as_one(rt: HostRuntime) -> Result<(), Fail> {
     assert!(rt; file.starts_with(&[0xF6, 0xF6, 0xF6, 0x28, 0x28, 0x28, 0xFF, 0xFF, 0x4E, 0x91]));
     let line = input(alloc, file.clone()?, FRAME, 0)?;
     let (ran, text) = from_line(alloc, SCRAMBLED_BACK, line, output(alloc, 1000, 0)?)?;
+    let sent = packets(alloc, 1, 60)?;
     assert_eq!(rt;
-        text_of(&ran.report),
-        "turns 8\nline-in 0 frames 64 lead-in 0 lost 0 rest 0 fas 0 sm 0 pm 0 live\nclient-out 0 frames 3 packets 1 live\nconnection b up\nstatus done\n"
+        (text_of(&ran.report), text_of(&text)),
+        (
+            "turns 8\nline-in 0 frames 64 lead-in 0 lost 0 rest 0 fas 0 sm 0 pm 0 live\nclient-out 0 frames 3 packets 1 live\nconnection b up\nstatus done\n",
+            text_of(&sent)
+        )
     );
-    assert_eq!(rt; text_of(&text), text_of(&packets(alloc, 1, 60)?));
     // A line that is taken for a plain one never locks.
     let line = input(alloc, file, FRAME, 0)?;
     let (ran, text) = from_line(alloc, FROM_LINE, line, output(alloc, 1000, 0)?)?;
-    assert_eq!(rt; ran.status, Status::Done);
-    assert!(rt;
-        text_of(&ran.report).starts_with("turns 8\nline-in 0 frames 64 lead-in 64 lost 0 rest 0 ")
+    let report = text_of(&ran.report);
+    let starts = report.starts_with("turns 8\nline-in 0 frames 64 lead-in 64 lost 0 rest 0 ");
+    let ends = report.ends_with("\nconnection b down\nstatus done\n");
+    assert_eq!(rt;
+        (ran.status, starts, ends, text.len()),
+        (Status::Done, true, true, 0)
     );
-    assert!(rt; text_of(&ran.report).ends_with("\nconnection b down\nstatus done\n"));
-    assert_eq!(rt; text.len(), 0);
     Ok(())
 }

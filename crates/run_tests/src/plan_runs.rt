@@ -233,16 +233,20 @@ fn a_packet_goes_to_a_line(rt: HostRuntime) -> Result<(), Fail> {
         let client = input(alloc, packets(alloc, 1, 60)?, 4096, 0)?;
         let line = output(alloc, LINE_ROOM, 0)?;
         let (ran, file) = to_line(alloc, TO_LINE, client, line, REPORT_ROOM, last)?;
-        assert_eq!(rt; ran.status, Status::Done);
-        assert_eq!(rt; text_of(&ran.report), THERE);
-        // In each of 8 turns 8 frames of the line and one piece of the client.
-        assert_eq!(rt; ran.asked, 72);
-        assert_eq!(rt; file.len(), 1_044_480);
-        assert_eq!(rt; said(&file, 2), [0x00, 0x03, 0x17]);
-        assert_eq!(rt; said(&file, 10), [0xED, 0x03, 0x2E]);
-        assert_eq!(rt; said(&file, 18), [0xED, 0x00, 0x39]);
-        for frame in [2, 10, 18] {
-            assert_eq!(rt; said_of_rest(&file, frame), [0, 0, 0]);
+        // It asks in each of 8 turns for 8 frames of the line and one piece of the client.
+        assert_eq!(rt;
+            (ran.status, text_of(&ran.report), ran.asked, file.len()),
+            (Status::Done, THERE, 72, 1_044_480)
+        );
+        for (frame, message) in [
+            (2, [0x00, 0x03, 0x17]),
+            (10, [0xED, 0x03, 0x2E]),
+            (18, [0xED, 0x00, 0x39]),
+        ] {
+            assert_eq!(rt;
+                (said(&file, frame), said_of_rest(&file, frame)),
+                (message, [0, 0, 0])
+            );
         }
     }
     Ok(())
@@ -259,9 +263,11 @@ fn a_packet_comes_back(rt: HostRuntime) -> Result<(), Fail> {
         let line = input(alloc, file, FRAME, 0)?;
         let client = output(alloc, 1000, 0)?;
         let (ran, text) = from_line(alloc, FROM_LINE, line, client)?;
-        assert_eq!(rt; ran.status, Status::Done);
-        assert_eq!(rt; text_of(&ran.report), report);
-        assert_eq!(rt; text_of(&text), text_of(&packets(alloc, 1, 60)?));
+        let sent = packets(alloc, 1, 60)?;
+        assert_eq!(rt;
+            (ran.status, text_of(&ran.report), text_of(&text)),
+            (Status::Done, report, text_of(&sent))
+        );
     }
     Ok(())
 }
