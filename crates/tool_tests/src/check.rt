@@ -54,12 +54,17 @@ fn plans_are_told_or_refused(rt: HostRuntime) -> Result<(), Fail> {
         ),
     ] {
         let (answer, got) = checked(alloc, MemSource::new(bytes_of(alloc, text)?), 100)?;
-        assert_eq!(rt; answer, status, "{text}");
-        assert!(rt; got.as_slice() == written.as_bytes(), "{text}");
+        assert_eq!(rt;
+            (answer, got.as_slice()),
+            (status, written.as_bytes()),
+            "{text}"
+        );
     }
     let (answer, got) = checked(alloc, MemSource::new(bytes_of(alloc, ONE)?), 4)?;
-    assert_eq!(rt; answer, Status::ReportFault);
-    assert!(rt; got.as_slice() == b"plan".as_slice());
+    assert_eq!(rt;
+        (answer, got.as_slice()),
+        (Status::ReportFault, b"plan".as_slice())
+    );
     Ok(())
 }
 
@@ -82,8 +87,11 @@ fn a_plan_that_fails_is_a_plan_fault(rt: HostRuntime) -> Result<(), Fail> {
     let alloc = rt.alloc();
     for call in [1, 2] {
         let (answer, got) = checked(alloc, FailsAt::new(bytes_of(alloc, ONE)?, call), 100)?;
-        assert_eq!(rt; answer, Status::PlanFault, "at call {call}");
-        assert_eq!(rt; got.len(), 0, "at call {call}");
+        assert_eq!(rt;
+            (answer, got.len()),
+            (Status::PlanFault, 0),
+            "at call {call}"
+        );
     }
     Ok(())
 }

@@ -93,7 +93,7 @@ fn a_marked_slot_is_down_until_its_msi_byte_is_right(rt: HostRuntime) -> Result<
 fn three_damaged_messages_are_one_too_many(rt: HostRuntime) -> Result<(), Fail> {
     let alloc = rt.alloc();
     let turn_10 = JC3 + 9 * TURN;
-    assert!(rt; pulls(alloc, 8 * 18, &[(turn_10, 1)], &[Part::Payload(2, 18)])?);
+    let one = pulls(alloc, 8 * 18, &[(turn_10, 1)], &[Part::Payload(2, 18)])?;
     let six = [
         (turn_10, 1),
         (turn_10 + TURN, 1),
@@ -103,7 +103,7 @@ fn three_damaged_messages_are_one_too_many(rt: HostRuntime) -> Result<(), Fail> 
         (turn_10 + 5 * TURN, 1),
     ];
     let parts = [Part::Payload(2, 11), Part::Ais(3), Part::Payload(17, 18)];
-    assert!(rt; pulls(alloc, 8 * 18, &six, &parts)?);
+    assert_eq!(rt; (one, pulls(alloc, 8 * 18, &six, &parts)?), (true, true));
     Ok(())
 }
 
@@ -117,7 +117,7 @@ fn five_wrong_mfas_bytes_are_one_too_many(rt: HostRuntime) -> Result<(), Fail> {
         (first + 2 * FRAME, 0x80),
         (first + 3 * FRAME, 0x80),
     ];
-    assert!(rt; pulls(alloc, 8 * 18, &four, &[Part::Payload(2, 18)])?);
+    let by_four = pulls(alloc, 8 * 18, &four, &[Part::Payload(2, 18)])?;
     let five = [
         (first, 0x80),
         (first + FRAME, 0x80),
@@ -126,6 +126,7 @@ fn five_wrong_mfas_bytes_are_one_too_many(rt: HostRuntime) -> Result<(), Fail> {
         (first + 4 * FRAME, 0x80),
     ];
     let parts = [Part::Payload(2, 9), Part::Payload(12, 18)];
-    assert!(rt; pulls(alloc, 8 * 18, &five, &parts)?);
+    let by_five = pulls(alloc, 8 * 18, &five, &parts)?;
+    assert_eq!(rt; (by_four, by_five), (true, true));
     Ok(())
 }

@@ -16,9 +16,13 @@ connection = [
 fn a_plan_that_is_refused(rt: HostRuntime) -> Result<(), Fail> {
     let refusal = refusal_of(rt.alloc(), SLOTS_FALL.as_bytes())?.ok_or("accepted")?;
     assert_eq!(rt; (refusal.rule.code(), refusal.place), (10, 2));
-    assert_eq!(rt; refusal.at.as_str(), "connection 2 (south)");
-    let wanted = "to: slots = [8, 2] do not rise; write [2, 8]";
-    assert_eq!(rt; refusal.reason.as_str(), wanted);
+    assert_eq!(rt;
+        (refusal.at.as_str(), refusal.reason.as_str()),
+        (
+            "connection 2 (south)",
+            "to: slots = [8, 2] do not rise; write [2, 8]"
+        )
+    );
     Ok(())
 }
 
@@ -27,8 +31,7 @@ fn inputs_that_are_none(rt: HostRuntime) -> Result<(), Fail> {
     let alloc = rt.alloc();
     let text = b"aabb\naab\nccdd\n";
     let look = look_at_text(alloc, MemSource::new(Vec::from_slice(alloc, text)?))?;
-    assert_eq!(rt; look.packets.count, 1);
-    assert_eq!(rt; look.end, TextEnd::Bad(2));
+    assert_eq!(rt; (look.packets.count, look.end), (1, TextEnd::Bad(2)));
     let mut source = MemSource::new(Vec::from_slice(alloc, text)?);
     let reason = reason_of_line(alloc, &mut source, 2)?;
     let wanted = "it has 3 digits, an odd number, and a byte has two";

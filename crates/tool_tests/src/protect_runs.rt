@@ -137,12 +137,19 @@ fn the_better_line_goes_on(rt: HostRuntime) -> Result<(), Fail> {
         let working = input(alloc, line_of(alloc, damaged)?, failing)?;
         let protection = input(alloc, line_of(alloc, 0)?, 0)?;
         let outcome = ran(alloc, &slots, working, protection, wait, 0)?;
-        assert_eq!(rt; outcome.ended, ended);
-        assert_eq!(rt; outcome.report.as_slice(), report.as_bytes());
-        assert_eq!(rt; outcome.written, 160 * LINE_FRAME_BYTES);
         assert_eq!(rt;
-            outcome.check,
-            0x46EE_63AB,
+            (
+                outcome.ended,
+                outcome.report.as_slice(),
+                outcome.written,
+                outcome.check
+            ),
+            (
+                ended,
+                report.as_bytes(),
+                160 * LINE_FRAME_BYTES,
+                0x46EE_63AB
+            ),
             "damaged {damaged}, wait {wait}"
         );
     }
@@ -153,9 +160,10 @@ fn the_better_line_goes_on(rt: HostRuntime) -> Result<(), Fail> {
 fn ais_where_nothing_comes(rt: HostRuntime) -> Result<(), Fail> {
     let slots = Slots::new(&[3], LineKind::Otu2).ok_or("slot 3")?;
     let outcome = ran(rt.alloc(), &slots, InPlaceOf::Empty, InPlaceOf::Empty, 0, 0)?;
-    assert_eq!(rt; outcome.ended, Ended::Done);
-    assert_eq!(rt; outcome.report.len(), 0);
-    assert_eq!(rt; outcome.check, 0x575F_8FDB);
+    assert_eq!(rt;
+        (outcome.ended, outcome.report.len(), outcome.check),
+        (Ended::Done, 0, 0x575F_8FDB)
+    );
     Ok(())
 }
 
@@ -167,8 +175,13 @@ fn a_report_that_fails_ends_it(rt: HostRuntime) -> Result<(), Fail> {
     let protection = input(alloc, line_of(alloc, 0)?, 0)?;
     let outcome = ran(alloc, &slots, working, protection, 0, 1)?;
     assert_eq!(rt; outcome.ended, Ended::ReportFault);
-    assert_eq!(rt; outcome.written, 88 * LINE_FRAME_BYTES);
-    assert_eq!(rt; outcome.working, 96 * LINE_FRAME_BYTES as u64);
-    assert_eq!(rt; outcome.protection, 96 * LINE_FRAME_BYTES as u64);
+    assert_eq!(rt;
+        (outcome.written, outcome.working, outcome.protection),
+        (
+            88 * LINE_FRAME_BYTES,
+            96 * LINE_FRAME_BYTES as u64,
+            96 * LINE_FRAME_BYTES as u64
+        )
+    );
     Ok(())
 }

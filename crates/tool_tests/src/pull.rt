@@ -164,11 +164,12 @@ fn pull_writes_the_same_from_any_frame_on(rt: HostRuntime) -> Result<(), Fail> {
     for (lead, more, status) in cases {
         let source = MemSource::new(line(alloc, Some(0xA5), lead, 40, more)?);
         let outcome = ran(alloc, &["pull", "1", "3"], source, 100_000)?;
-        assert_eq!(rt; outcome.status, status, "after {lead:?}");
-        assert_eq!(rt; outcome.written.len(), 60_672, "after {lead:?}");
-        for byte in outcome.written.as_slice() {
-            assert_eq!(rt; *byte, 0xA5, "after {lead:?}");
-        }
+        let all_alike = outcome.written.iter().all(|byte| *byte == 0xA5);
+        assert_eq!(rt;
+            (outcome.status, outcome.written.len(), all_alike),
+            (status, 60_672, true),
+            "after {lead:?}"
+        );
     }
     Ok(())
 }
@@ -224,15 +225,20 @@ fn pull_is_told_by_its_words(rt: HostRuntime) -> Result<(), Fail> {
     for words in forms {
         let source = MemSource::new(line(alloc, None, &[], 1, 0)?);
         let outcome = ran(alloc, words, source, 5000)?;
-        assert_eq!(rt; outcome.status, Status::Words, "{words:?}");
-        assert_eq!(rt; outcome.taken, 0, "{words:?}");
-        assert_eq!(rt; outcome.written.len(), 0, "{words:?}");
+        assert_eq!(rt;
+            (outcome.status, outcome.taken, outcome.written.len()),
+            (Status::Words, 0, 0),
+            "{words:?}"
+        );
     }
     for (port, slots) in [("1", "8"), ("8", "1,2,8"), ("1", "1,2,3,4,5,6,7,8")] {
         let source = MemSource::new(Vec::new(alloc));
         let outcome = ran(alloc, &["pull", port, slots], source, 0)?;
-        assert_eq!(rt; outcome.status, Status::Done, "{port} {slots}");
-        assert_eq!(rt; outcome.written.len(), 0, "{port} {slots}");
+        assert_eq!(rt;
+            (outcome.status, outcome.written.len()),
+            (Status::Done, 0),
+            "{port} {slots}"
+        );
     }
     Ok(())
 }

@@ -61,17 +61,12 @@ fn slot_writes_whole_frames(rt: HostRuntime) -> Result<(), Fail> {
     ] {
         let line = MemSource::new(numbered(alloc, frames, more)?);
         let outcome = ran(alloc, &["slot", "3"], line, room)?;
+        let as_wanted = outcome.written == slot_three(alloc, whole)?;
         assert_eq!(rt;
-            outcome.status,
-            status,
+            (outcome.status, as_wanted, outcome.dead),
+            (status, true, false),
             "{frames} frames and {more} bytes into {room}"
         );
-        let wanted = slot_three(alloc, whole)?;
-        assert!(rt;
-            outcome.written.as_slice() == wanted.as_slice(),
-            "{frames} frames and {more} bytes into {room}"
-        );
-        assert!(rt; !outcome.dead);
     }
     Ok(())
 }
@@ -92,9 +87,11 @@ fn other_words_touch_nothing(rt: HostRuntime) -> Result<(), Fail> {
     for words in forms {
         let line = MemSource::new(numbered(alloc, 1, 0)?);
         let outcome = ran(alloc, words, line, 5000)?;
-        assert_eq!(rt; outcome.status, Status::Words, "{words:?}");
-        assert_eq!(rt; outcome.taken, 0, "{words:?}");
-        assert_eq!(rt; outcome.written.len(), 0, "{words:?}");
+        assert_eq!(rt;
+            (outcome.status, outcome.taken, outcome.written.len()),
+            (Status::Words, 0, 0),
+            "{words:?}"
+        );
     }
     Ok(())
 }
@@ -105,13 +102,12 @@ fn a_line_that_fails_is_cut(rt: HostRuntime) -> Result<(), Fail> {
     for (call, whole) in [(1, 0), (2, 1)] {
         let line = FailsAt::new(numbered(alloc, 3, 0)?, call);
         let outcome = ran(alloc, &["slot", "3"], line, 10_000)?;
-        assert_eq!(rt; outcome.status, Status::Cut, "at call {call}");
-        let wanted = slot_three(alloc, whole)?;
-        assert!(rt;
-            outcome.written.as_slice() == wanted.as_slice(),
+        let as_wanted = outcome.written == slot_three(alloc, whole)?;
+        assert_eq!(rt;
+            (outcome.status, as_wanted, outcome.dead),
+            (Status::Cut, true, true),
             "at call {call}"
         );
-        assert!(rt; outcome.dead, "at call {call}");
     }
     Ok(())
 }
@@ -130,11 +126,10 @@ fn frames_at_hand_are_written_as_one_by_one(rt: HostRuntime) -> Result<(), Fail>
     ] {
         let line = file(alloc, frames, more)?;
         let outcome = ran(alloc, &["slot", "3"], line, 40_000)?;
-        let wanted = slot_three(alloc, frames)?;
-        assert_eq!(rt; outcome.status, status, "{frames} and {more}");
-        assert_eq!(rt; outcome.taken, taken, "{frames} and {more}");
-        assert!(rt;
-            outcome.written.as_slice() == wanted.as_slice(),
+        let as_wanted = outcome.written == slot_three(alloc, frames)?;
+        assert_eq!(rt;
+            (outcome.status, outcome.taken, as_wanted),
+            (status, taken, true),
             "{frames} and {more}"
         );
     }
@@ -155,14 +150,18 @@ fn a_failed_write_takes_the_frames_up_to_its_own(rt: HostRuntime) -> Result<(), 
         (32_367, 277_440),
     ] {
         let outcome = ran(alloc, &["slot", "3"], file(alloc, 17, 0)?, room)?;
-        assert_eq!(rt; outcome.status, Status::ReportFault, "into {room}");
-        assert_eq!(rt; outcome.taken, taken, "into {room}");
-        assert_eq!(rt; outcome.written.len(), room, "into {room}");
-        assert!(rt;
-            wanted.starts_with(outcome.written.as_slice()),
+        let is_front = wanted.starts_with(outcome.written.as_slice());
+        assert_eq!(rt;
+            (
+                outcome.status,
+                outcome.taken,
+                outcome.written.len(),
+                is_front,
+                outcome.dead
+            ),
+            (Status::ReportFault, taken, room, true, false),
             "into {room}"
         );
-        assert!(rt; !outcome.dead, "into {room}");
     }
     Ok(())
 }

@@ -47,10 +47,11 @@ const CHECKS: &str = "line 0 check 1c2b80b1\nline 1 check 413c97c3\nline 2 check
 fn a_trial_brings_all_packets_back(rt: HostRuntime) -> Result<(), Fail> {
     let alloc = rt.alloc();
     let (status, written, asked) = tried(alloc, 4096)?;
-    assert_eq!(rt; status, Status::Done);
-    assert_eq!(rt; asked, 1024);
     let text = written.as_slice();
-    assert_eq!(rt; text.get(..CHECKS.len()).unwrap_or(&[]), CHECKS.as_bytes());
+    assert_eq!(rt;
+        (status, asked, text.get(..CHECKS.len()).unwrap_or(&[])),
+        (Status::Done, 1024, CHECKS.as_bytes())
+    );
     let mut back = 0u32;
     for line in text.split(|byte| *byte == b'\n') {
         if line.get(8..31).unwrap_or(&[]) == b" sent 16 got 16 bytes 1".as_slice() {
@@ -65,11 +66,10 @@ fn a_trial_brings_all_packets_back(rt: HostRuntime) -> Result<(), Fail> {
 fn a_report_without_room_is_a_fault(rt: HostRuntime) -> Result<(), Fail> {
     let alloc = rt.alloc();
     let (status, written, asked) = tried(alloc, 40)?;
-    assert_eq!(rt; status, Status::ReportFault);
-    assert_eq!(rt; asked, 1024);
+    let wanted = CHECKS.as_bytes().get(..40).unwrap_or(&[]);
     assert_eq!(rt;
-        written.as_slice(),
-        CHECKS.as_bytes().get(..40).unwrap_or(&[])
+        (status, asked, written.as_slice()),
+        (Status::ReportFault, 1024, wanted)
     );
     Ok(())
 }

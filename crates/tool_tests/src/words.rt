@@ -35,9 +35,11 @@ fn forms_of_run(rt: HostRuntime) -> Result<(), Fail> {
         ("slot 8", Command::Slot(8), None),
     ] {
         let words = words_of(rt.alloc(), text)?;
-        assert_eq!(rt; command_of(&words), Some(command), "{text}");
-        assert_eq!(rt; order_of(&words), order, "{text}");
-        assert_eq!(rt; takes_captures(&words), text == "run --pcap", "{text}");
+        assert_eq!(rt;
+            (command_of(&words), order_of(&words), takes_captures(&words)),
+            (Some(command), order, text == "run --pcap"),
+            "{text}"
+        );
     }
     Ok(())
 }
@@ -78,8 +80,11 @@ fn words_of_no_command(rt: HostRuntime) -> Result<(), Fail> {
         "check --order 1",
     ] {
         let words = words_of(rt.alloc(), text)?;
-        assert_eq!(rt; command_of(&words), None, "{text}");
-        assert_eq!(rt; order_of(&words), None, "{text}");
+        assert_eq!(rt;
+            (command_of(&words), order_of(&words)),
+            (None, None),
+            "{text}"
+        );
     }
     Ok(())
 }
