@@ -61,10 +61,11 @@ fn bytes_at_hand_come_first(rt: HostRuntime) -> Result<(), Fail> {
         (Ok(2), [1, 1, 1], 0, 1),
         (Ok(3), [2, 2, 2], 0, 2),
     ] {
-        assert_eq!(rt; source.read(&mut into), answer);
-        assert_eq!(rt; into, front);
-        assert_eq!(rt; source.peek().len(), left);
-        assert_eq!(rt; calls.get(), asked);
+        let read = source.read(&mut into);
+        assert_eq!(rt;
+            (read, into, source.peek().len(), calls.get()),
+            (answer, front, left, asked)
+        );
     }
     Ok(())
 }
@@ -75,10 +76,10 @@ fn a_source_with_bytes_at_hand_asks_for_none(rt: HostRuntime) -> Result<(), Fail
     let mut source = source(&calls, 0, ErrorKind::Other)?;
     source.look_ahead(rt.alloc());
     source.look_ahead(rt.alloc());
-    assert_eq!(rt; calls.get(), 1);
-    assert_eq!(rt; source.read(&mut [0; 5]), Ok(5));
+    let once = calls.get();
+    let read = source.read(&mut [0; 5]);
     source.look_ahead(rt.alloc());
-    assert_eq!(rt; calls.get(), 2);
+    assert_eq!(rt; (once, read, calls.get()), (1, Ok(5), 2));
     assert_eq!(rt; source.peek(), [2, 2, 2, 2, 2].as_slice());
     Ok(())
 }
@@ -89,11 +90,10 @@ fn the_next_read_answers_a_refusal(rt: HostRuntime) -> Result<(), Fail> {
     let mut source = source(&calls, 1, ErrorKind::Other)?;
     source.look_ahead(rt.alloc());
     source.look_ahead(rt.alloc());
-    assert_eq!(rt; source.peek(), [].as_slice());
-    assert_eq!(rt; calls.get(), 1);
+    assert_eq!(rt; (source.peek().len(), calls.get()), (0, 1));
     for (answer, asked) in [(Err(Failed), 1_u8), (Ok(3), 2), (Ok(3), 3)] {
-        assert_eq!(rt; source.read(&mut [0; 3]), answer);
-        assert_eq!(rt; calls.get(), asked);
+        let read = source.read(&mut [0; 3]);
+        assert_eq!(rt; (read, calls.get()), (answer, asked));
     }
     Ok(())
 }
@@ -124,15 +124,16 @@ fn small_reads_go_by_blocks(rt: HostRuntime) -> Result<(), Fail> {
         (Ok(2), 3, 0, 3),
         (Ok(3), 4, 2, 4),
     ] {
-        assert_eq!(rt; source.read(&mut into), answer);
-        assert_eq!(rt; into[0], byte);
-        assert_eq!(rt; source.peek().len(), left);
-        assert_eq!(rt; calls.get(), asked);
+        let read = source.read(&mut into);
+        assert_eq!(rt;
+            (read, into[0], source.peek().len(), calls.get()),
+            (answer, byte, left, asked)
+        );
     }
-    assert_eq!(rt; source.read(&mut into), Ok(2));
+    let rest = source.read(&mut into);
     let mut large = zeros(rt.alloc(), 40_000)?;
-    assert_eq!(rt; source.read(&mut large), Ok(5));
-    assert_eq!(rt; source.peek(), [].as_slice());
+    let read = source.read(&mut large);
+    assert_eq!(rt; (rest, read, source.peek().len()), (Ok(2), Ok(5), 0));
     Ok(())
 }
 
@@ -164,9 +165,11 @@ fn a_line_is_read_by_four_frames(rt: HostRuntime) -> Result<(), Fail> {
     source.read_by_blocks(rt.alloc(), ReadBlock::Frames);
     let mut frame = zeros(rt.alloc(), LINE_FRAME_BYTES)?;
     for made in [1_u8, 1, 1, 1, 2] {
-        assert_eq!(rt; source.read(&mut frame), Ok(LINE_FRAME_BYTES));
-        assert_eq!(rt; calls.get(), made);
-        assert_eq!(rt; asked.get(), 4 * LINE_FRAME_BYTES);
+        let read = source.read(&mut frame);
+        assert_eq!(rt;
+            (read, calls.get(), asked.get()),
+            (Ok(LINE_FRAME_BYTES), made, 4 * LINE_FRAME_BYTES)
+        );
     }
     Ok(())
 }
@@ -184,25 +187,32 @@ fn what_is_held_on_to_stays(rt: HostRuntime) -> Result<(), Fail> {
     source.read_by_blocks(rt.alloc(), ReadBlock::Frames);
     let mut place = InPlaceOf::Live(source, 0);
     let mut frame = zeros(rt.alloc(), LINE_FRAME_BYTES)?;
-    assert!(rt; place.share(LINE_FRAME_BYTES).is_none());
-    assert_eq!(rt; place.read_full(&mut frame), Reading::Full);
-    assert!(rt; place.share(3 * LINE_FRAME_BYTES + 1).is_none());
+    let before = place.share(LINE_FRAME_BYTES).is_none();
+    let first = place.read_full(&mut frame);
+    let too_many = place.share(3 * LINE_FRAME_BYTES + 1).is_none();
+    assert_eq!(rt; (before, first, too_many), (true, Reading::Full, true));
     let held = place.share(LINE_FRAME_BYTES);
     assert_eq!(rt;
         pass_some(&mut place, 4 * LINE_FRAME_BYTES),
         3 * LINE_FRAME_BYTES
     );
-    assert_eq!(rt; place.read_full(&mut frame), Reading::Full);
-    assert_eq!(rt; (calls.get(), asked.get()), (2, LINE_FRAME_BYTES));
-    assert!(rt; frame.iter().all(|byte| *byte == 2));
+    let second = place.read_full(&mut frame);
     assert_eq!(rt;
-        held.is_some_and(|bytes| bytes.as_bytes().iter().all(|byte| *byte == 1)),
-        true
+        (second, all_are(&frame, 2), calls.get(), asked.get()),
+        (Reading::Full, true, 2, LINE_FRAME_BYTES)
     );
-    assert_eq!(rt; place.read_full(&mut frame), Reading::Full);
-    assert_eq!(rt; (calls.get(), asked.get()), (3, 4 * LINE_FRAME_BYTES));
-    assert!(rt; frame.iter().all(|byte| *byte == 3));
+    let stays = held.is_some_and(|bytes| all_are(bytes.as_bytes(), 1));
+    let third = place.read_full(&mut frame);
+    assert_eq!(rt;
+        (stays, third, all_are(&frame, 3), calls.get(), asked.get()),
+        (true, Reading::Full, true, 3, 4 * LINE_FRAME_BYTES)
+    );
     Ok(())
+}
+
+// Whether all of these bytes are this one.
+fn all_are(bytes: &[u8], wanted: u8) -> bool {
+    bytes.iter().all(|byte| *byte == wanted)
 }
 
 // So many bytes.
@@ -247,13 +257,15 @@ fn a_place_counts_the_bytes_that_it_goes_past(rt: HostRuntime) -> Result<(), Fai
     let mut place = InPlace::Live(InPort::Boxed(source), 100);
     let mut into = [0u8; 4];
     place.look_ahead(rt.alloc());
-    assert_eq!(rt; taken(&place), 100);
-    assert_eq!(rt; pass_some(&mut place, 2), 2);
-    assert_eq!(rt; taken(&place), 102);
+    let before = taken(&place);
+    let passed = pass_some(&mut place, 2);
+    assert_eq!(rt; (before, passed, taken(&place)), (100, 2, 102));
     assert_eq!(rt; place.peek(), [1, 1, 1].as_slice());
-    assert_eq!(rt; place.read_full(&mut into), Reading::Full);
-    assert_eq!(rt; into, [1, 1, 1, 2]);
-    assert_eq!(rt; taken(&place), 106);
+    let read = place.read_full(&mut into);
+    assert_eq!(rt;
+        (read, into, taken(&place)),
+        (Reading::Full, [1, 1, 1, 2], 106)
+    );
     Ok(())
 }
 
@@ -262,12 +274,12 @@ fn a_place_dies_at_the_read_and_not_before(rt: HostRuntime) -> Result<(), Fail> 
     let calls = counted(rt.alloc())?;
     let mut place = InPlaceOf::Live(source(&calls, 1, ErrorKind::Other)?, 0);
     place.look_ahead(rt.alloc());
-    assert!(rt; matches!(place, InPlaceOf::Live(..)));
-    assert_eq!(rt; place.read_full(&mut [0; 4]), Reading::Lost);
-    assert!(rt; matches!(place, InPlaceOf::Dead(..)));
+    let lives = matches!(place, InPlaceOf::Live(..));
+    let read = place.read_full(&mut [0; 4]);
+    let is_dead = matches!(place, InPlaceOf::Dead(..));
     place.look_ahead(rt.alloc());
-    assert_eq!(rt; place.peek(), [].as_slice());
-    assert_eq!(rt; calls.get(), 1);
+    assert_eq!(rt; (lives, read, is_dead), (true, Reading::Lost, true));
+    assert_eq!(rt; (place.peek().len(), calls.get()), (0, 1));
     Ok(())
 }
 
@@ -275,11 +287,13 @@ fn a_place_dies_at_the_read_and_not_before(rt: HostRuntime) -> Result<(), Fail> 
 fn a_source_with_no_file_has_nothing_at_hand(rt: HostRuntime) -> Result<(), Fail> {
     let mut none = FileSource::of(None);
     none.look_ahead(rt.alloc());
-    assert_eq!(rt; none.peek(), [].as_slice());
-    assert_eq!(rt; none.read(&mut [0; 3]), Err(Failed));
+    let none_has = none.peek().len();
+    let none_gives = none.read(&mut [0; 3]);
     let mut held = MemSource::new([1, 2].to_vec(rt.alloc())?);
     held.look_ahead(rt.alloc());
-    assert_eq!(rt; held.peek(), [].as_slice());
-    assert_eq!(rt; held.read(&mut [0; 3]), Ok(2));
+    let held_has = held.peek().len();
+    let held_gives = held.read(&mut [0; 3]);
+    assert_eq!(rt; (none_has, none_gives), (0, Err(Failed)));
+    assert_eq!(rt; (held_has, held_gives), (0, Ok(2)));
     Ok(())
 }

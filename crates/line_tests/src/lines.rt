@@ -111,8 +111,8 @@ fn lead_in_and_rest(rt: HostRuntime) -> Result<(), Fail> {
         false,
     )?;
     assert_eq!(rt;
-        firsts.as_slice(),
-        [5, 13, 21, 29, 37, 45, 53, 61, 255].as_slice()
+        (firsts.as_slice(), end_seen),
+        ([5, 13, 21, 29, 37, 45, 53, 61, 255].as_slice(), true)
     );
     assert_eq!(rt;
         counts,
@@ -126,7 +126,6 @@ fn lead_in_and_rest(rt: HostRuntime) -> Result<(), Fail> {
             pm: 66
         }
     );
-    assert!(rt; end_seen);
     Ok(())
 }
 
@@ -178,7 +177,7 @@ fn short_lines(rt: HostRuntime) -> Result<(), Fail> {
             LineKind::Otu2,
             false,
         )?;
-        assert_eq!(rt; firsts.as_slice(), [255].as_slice());
+        assert_eq!(rt; (firsts.as_slice(), end_seen), ([255].as_slice(), true));
         assert_eq!(rt;
             counts,
             LineCounts {
@@ -191,7 +190,6 @@ fn short_lines(rt: HostRuntime) -> Result<(), Fail> {
                 pm: wrong
             }
         );
-        assert!(rt; end_seen);
     }
     Ok(())
 }
@@ -235,8 +233,15 @@ fn a_line_of_32(rt: HostRuntime) -> Result<(), Fail> {
         LineKind::Otu3,
         false,
     )?;
-    assert_eq!(rt; firsts.as_slice(), [2, 34, 255].as_slice());
-    assert_eq!(rt; (counts.frames, counts.lead_in, counts.lost), (70, 2, 0));
+    assert_eq!(rt;
+        (
+            firsts.as_slice(),
+            counts.frames,
+            counts.lead_in,
+            counts.lost
+        ),
+        ([2, 34, 255].as_slice(), 70, 2, 0)
+    );
     Ok(())
 }
 
@@ -250,7 +255,7 @@ fn dies_in_a_turn(rt: HostRuntime) -> Result<(), Fail> {
         failed: 0,
     };
     let (firsts, counts, end_seen) = turns(alloc, source, LineKind::Otu2, false)?;
-    assert_eq!(rt; firsts.as_slice(), [0, 255].as_slice());
+    assert_eq!(rt; (firsts.as_slice(), end_seen), ([0, 255].as_slice(), false));
     assert_eq!(rt;
         counts,
         LineCounts {
@@ -263,7 +268,6 @@ fn dies_in_a_turn(rt: HostRuntime) -> Result<(), Fail> {
             pm: 9
         }
     );
-    assert!(rt; !end_seen);
     Ok(())
 }
 
@@ -311,8 +315,7 @@ fn frames_of_a_free_line(rt: HostRuntime) -> Result<(), Fail> {
     for kind in [LineKind::Otu2, LineKind::Otu3] {
         let (bytes, frames) = written(alloc, 9, 200_000, &SlotMap::new(kind), kind, false)?;
         // the ninth waits for seven more
-        assert_eq!(rt; frames, 8);
-        assert_eq!(rt; bytes.len(), 8 * LINE_FRAME_BYTES);
+        assert_eq!(rt; (frames, bytes.len()), (8, 8 * LINE_FRAME_BYTES));
         for (frame, tti, bip) in [
             (0_usize, 0_u8, 0_u8),
             (1, b'L', 0),
@@ -324,13 +327,27 @@ fn frames_of_a_free_line(rt: HostRuntime) -> Result<(), Fail> {
             (7, 0, 0xC0),
         ] {
             let start = LINE_FRAME_BYTES * frame;
-            assert_eq!(rt; at(&bytes, start), 0xF6);
-            assert_eq!(rt; at(&bytes, start + 6), frame as u8);
-            assert_eq!(rt; at(&bytes, start + 7), tti, "SM TTI of frame {frame}");
-            assert_eq!(rt; at(&bytes, start + 8), bip, "SM BIP-8 of frame {frame}");
-            assert_eq!(rt; at(&bytes, start + 8169), tti, "PM TTI of frame {frame}");
-            assert_eq!(rt; at(&bytes, start + 8170), bip, "PM BIP-8 of frame {frame}");
-            assert_eq!(rt; at(&bytes, start + 8171), 1, "STAT of frame {frame}");
+            let section = [
+                at(&bytes, start),
+                at(&bytes, start + 6),
+                at(&bytes, start + 7),
+                at(&bytes, start + 8),
+            ];
+            let path = [
+                at(&bytes, start + 8169),
+                at(&bytes, start + 8170),
+                at(&bytes, start + 8171),
+            ];
+            assert_eq!(rt;
+                section,
+                [0xF6, frame as u8, tti, bip],
+                "FAS, MFAS, SM TTI and BIP-8 of frame {frame}"
+            );
+            assert_eq!(rt;
+                path,
+                [tti, bip, 1],
+                "PM TTI, BIP-8 and STAT of frame {frame}"
+            );
             assert_eq!(rt; at(&bytes, start + 16064), 0, "FEC of frame {frame}");
         }
     }
@@ -344,8 +361,16 @@ fn a_scrambled_line(rt: HostRuntime) -> Result<(), Fail> {
     let (bytes, _) = written(alloc, 16, 300_000, &SlotMap::new(kind), kind, true)?;
     let (read, counts, _) = turns(alloc, MemSource::new(bytes), kind, true)?;
     assert_eq!(rt; read.as_slice(), [0, 0, 255].as_slice());
-    assert_eq!(rt; (counts.frames, counts.lead_in, counts.fas), (16, 0, 0));
-    assert_eq!(rt; (counts.sm, counts.pm), (0, 0));
+    assert_eq!(rt;
+        (
+            counts.frames,
+            counts.lead_in,
+            counts.fas,
+            counts.sm,
+            counts.pm
+        ),
+        (16, 0, 0, 0, 0)
+    );
 
     let (bytes, _) = written(alloc, 16, 300_000, &SlotMap::new(kind), kind, true)?;
     assert_eq!(rt;
@@ -353,8 +378,10 @@ fn a_scrambled_line(rt: HostRuntime) -> Result<(), Fail> {
         Some([0xF6, 0xF6, 0xF6, 0x28, 0x28, 0x28, 0xFF, 0xFF, 0x4E, 0x91].as_slice())
     );
     let (plain, counts, _) = turns(alloc, MemSource::new(bytes), kind, false)?;
-    assert_eq!(rt; plain.as_slice(), [255, 255, 255].as_slice());
-    assert_eq!(rt; (counts.frames, counts.lead_in, counts.fas), (16, 16, 0));
+    assert_eq!(rt;
+        (plain.as_slice(), counts.frames, counts.lead_in, counts.fas),
+        ([255, 255, 255].as_slice(), 16, 16, 0)
+    );
     Ok(())
 }
 
@@ -372,9 +399,11 @@ fn a_line_that_dies(rt: HostRuntime) -> Result<(), Fail> {
         (24, 15 * LINE_FRAME_BYTES + 1, 15),
     ] {
         let (bytes, frames) = written(alloc, made, room, &map, kind, false)?;
-        assert_eq!(rt; frames, whole);
-        assert_eq!(rt; bytes.len(), room);
-        assert_eq!(rt; at(&bytes, 12254), 0x21, "PSI[0]");
+        // byte 12,254 is PSI[0]
+        assert_eq!(rt;
+            (frames, bytes.len(), at(&bytes, 12254)),
+            (whole, room, 0x21)
+        );
     }
     Ok(())
 }

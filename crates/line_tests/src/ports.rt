@@ -51,14 +51,16 @@ fn a_source_is_read_across_its_end(rt: HostRuntime) -> Result<(), Fail> {
         (Reading::End(2), [9, 10, 7, 8], 110),
         (Reading::End(0), [9, 10, 7, 8], 110),
     ] {
-        assert_eq!(rt; place.read_full(&mut into), reading);
-        assert_eq!(rt; into, front);
-        assert_eq!(rt; taken(&place), number);
+        let read = place.read_full(&mut into);
+        assert_eq!(rt; (read, into, taken(&place)), (reading, front, number));
     }
-    assert_eq!(rt; place.read_full(&mut []), Reading::Full);
+    let nothing = place.read_full(&mut []);
     place.retire();
-    assert_eq!(rt; place.read_full(&mut into), Reading::End(0));
-    assert!(rt; matches!(place, InPlaceOf::Empty));
+    let retired = place.read_full(&mut into);
+    assert_eq!(rt;
+        (nothing, retired, matches!(place, InPlaceOf::Empty)),
+        (Reading::Full, Reading::End(0), true)
+    );
     Ok(())
 }
 
@@ -72,19 +74,29 @@ fn a_sink_runs_out_of_room_in_mid_write(rt: HostRuntime) -> Result<(), Fail> {
         (Written::Lost, 10, true),
         (Written::Whole, 10, true),
     ] {
-        assert_eq!(rt; place.write_all(&[1, 2, 3, 4]), written);
-        assert_eq!(rt; went(&place), number);
-        assert_eq!(rt; is_dead(&place), dead);
+        let write = place.write_all(&[1, 2, 3, 4]);
+        assert_eq!(rt;
+            (write, went(&place), is_dead(&place)),
+            (written, number, dead)
+        );
     }
     assert_eq!(rt;
         place.kept(),
         Some([1, 2, 3, 4, 1, 2, 3, 4, 1, 2].as_slice())
     );
     let mut report = MemSink::with_room(alloc, 3)?;
-    assert_eq!(rt; write_whole(&mut report, &[7, 8]), Written::Whole);
-    assert_eq!(rt; write_whole(&mut report, &[9, 10]), Written::Lost);
+    let first = write_whole(&mut report, &[7, 8]);
+    let second = write_whole(&mut report, &[9, 10]);
+    assert_eq!(rt; (first, second), (Written::Whole, Written::Lost));
     assert_eq!(rt; report.into_bytes().as_slice(), [7, 8, 9].as_slice());
     Ok(())
+}
+
+// Five where five bytes more were read or written.
+fn five(more: bool) -> u64
+    ensures { result ≤ 5 }
+{
+    if more { 5 } else { 0 }
 }
 
 #[test]
@@ -104,22 +116,27 @@ fn each_of_all_places_is_its_own(rt: HostRuntime) -> Result<(), Fail> {
         }
     }
     let mut into = [0u8; 5];
-    assert_eq!(rt; bays.line_in_mut(3).read_full(&mut into), Reading::Full);
-    assert_eq!(rt; bays.client_in_mut(15).read_full(&mut into), Reading::Full);
-    assert_eq!(rt; bays.line_out_mut(0).write_all(&into), Written::Whole);
-    assert_eq!(rt; bays.client_out_mut(7).write_all(&into), Written::Whole);
+    let read = (
+        bays.line_in_mut(3).read_full(&mut into),
+        bays.client_in_mut(15).read_full(&mut into),
+    );
+    let wrote = (
+        bays.line_out_mut(0).write_all(&into),
+        bays.client_out_mut(7).write_all(&into),
+    );
+    assert_eq!(rt; read, (Reading::Full, Reading::Full));
+    assert_eq!(rt; wrote, (Written::Whole, Written::Whole));
     for n in 0..16_u8 {
-        let (read, wrote) = (n == 15, n == 7);
-        let more = if read { 5 } else { 0 };
-        assert_eq!(rt; taken(bays.client_in(n)), n as u64 + 1 + more);
-        let more = if wrote { 5 } else { 0 };
-        assert_eq!(rt; went(bays.client_out(n)), n as u64 + 21 + more);
+        assert_eq!(rt;
+            (taken(bays.client_in(n)), went(bays.client_out(n))),
+            (n as u64 + 1 + five(n == 15), n as u64 + 21 + five(n == 7))
+        );
     }
     for n in 0..4_u8 {
-        let more = if n == 3 { 5 } else { 0 };
-        assert_eq!(rt; taken(bays.line_in(n)), n as u64 + 41 + more);
-        let more = if n == 0 { 5 } else { 0 };
-        assert_eq!(rt; went(bays.line_out(n)), n as u64 + 61 + more);
+        assert_eq!(rt;
+            (taken(bays.line_in(n)), went(bays.line_out(n))),
+            (n as u64 + 41 + five(n == 3), n as u64 + 61 + five(n == 0))
+        );
     }
     Ok(())
 }
@@ -127,18 +144,17 @@ fn each_of_all_places_is_its_own(rt: HostRuntime) -> Result<(), Fail> {
 #[test]
 fn a_port_with_no_file_fails(rt: HostRuntime) -> Result<(), Fail> {
     let mut source = FileSource::of(None);
-    assert_eq!(rt; source.read(&mut []), Ok(0));
-    assert_eq!(rt; source.read(&mut [0; 3]), Err(Failed));
+    let read = (source.read(&mut []), source.read(&mut [0; 3]));
     let mut sink = FileSink::of(None);
-    assert_eq!(rt; sink.write(&[]), Ok(0));
-    assert_eq!(rt; sink.write(&[1, 2, 3]), Err(Failed));
+    let wrote = (sink.write(&[]), sink.write(&[1, 2, 3]));
+    assert_eq!(rt; (read, wrote), ((Ok(0), Err(Failed)), (Ok(0), Err(Failed))));
     assert_eq!(rt; sink.kept(), None);
     let mut place = InPlaceOf::Live(source, 0);
-    assert_eq!(rt; place.read_full(&mut [0; 3]), Reading::Lost);
-    assert_eq!(rt; place.read_full(&mut [0; 3]), Reading::End(0));
+    let read = (place.read_full(&mut [0; 3]), place.read_full(&mut [0; 3]));
+    assert_eq!(rt; read, (Reading::Lost, Reading::End(0)));
     let mut out = StdoutSink::of(rt.stdout());
-    assert_eq!(rt; write_whole(&mut out, b"ports\n"), Written::Whole);
-    assert_eq!(rt; FirstReady::new().pick(3), 0);
+    let wrote = write_whole(&mut out, b"ports\n");
+    assert_eq!(rt; (wrote, FirstReady::new().pick(3)), (Written::Whole, 0));
     Ok(())
 }
 
@@ -184,9 +200,11 @@ impl Write for Interrupting {
 fn an_interrupted_call_is_tried_again(rt: HostRuntime) {
     for (fails, answer) in [(false, Ok(1)), (true, Err(Failed))] {
         let mut source = ReaderSource::over(Interrupting { calls: 3, fails });
-        assert_eq!(rt; source.read(&mut [0; 2]), answer);
         let mut sink = WriterSink::over(Interrupting { calls: 3, fails });
-        assert_eq!(rt; sink.write(&[1, 2]), answer);
+        assert_eq!(rt;
+            (source.read(&mut [0; 2]), sink.write(&[1, 2])),
+            (answer, answer)
+        );
     }
 }
 
@@ -202,10 +220,10 @@ fn a_file_comes_back_as_it_was_written(rt: HostRuntime) -> Result<(), Fail> {
     let mut source = InPlaceOf::Live(FileSource::of(Some(File::open(&rt, &path)?)), 0);
     fs::remove_file(&rt, &path)?;
     let mut into = [0u8; 8];
-    assert_eq!(rt; source.read_full(&mut into), Reading::Full);
-    assert_eq!(rt; into, [1, 2, 3, 4, 5, 6, 7, 8]);
-    assert_eq!(rt; source.read_full(&mut into), Reading::End(2));
-    assert_eq!(rt; &into[..2], [9, 10].as_slice());
+    let read = source.read_full(&mut into);
+    assert_eq!(rt; (read, into), (Reading::Full, [1, 2, 3, 4, 5, 6, 7, 8]));
+    let read = source.read_full(&mut into);
+    assert_eq!(rt; (read, into[0], into[1]), (Reading::End(2), 9, 10));
     Ok(())
 }
 
@@ -224,8 +242,8 @@ fn a_listed_source_fails_at_its_listed_calls(rt: HostRuntime) -> Result<(), Fail
         (Ok(1), [10, 8, 9, 0]),
         (Ok(0), [10, 8, 9, 0]),
     ] {
-        assert_eq!(rt; source.read(&mut into), answer);
-        assert_eq!(rt; into, front);
+        let read = source.read(&mut into);
+        assert_eq!(rt; (read, into), (answer, front));
     }
     Ok(())
 }
@@ -254,8 +272,8 @@ fn a_spoiled_source_changes_listed_places(rt: HostRuntime) -> Result<(), Fail> {
         (Reading::Full, [10, 6, 7, 8]),
         (Reading::End(2), [9, 11, 7, 8]),
     ] {
-        assert_eq!(rt; place.read_full(&mut into), reading);
-        assert_eq!(rt; into, front);
+        let read = place.read_full(&mut into);
+        assert_eq!(rt; (read, into), (reading, front));
     }
     Ok(())
 }
@@ -282,10 +300,13 @@ fn sevens(alloc: Global, n: usize) -> Result<Vec<u8>, Fail> {
 fn a_short_write_is_told_as_it_was(rt: HostRuntime) -> Result<(), Fail> {
     let bytes = sevens(rt.alloc(), 1_904)?;
     let mut sink = WriterSink::over(Pipe);
-    assert_eq!(rt; sink.write(&bytes), Ok(1_000));
+    let first = sink.write(&bytes);
     let mut place = OutPlaceOf::Live(sink, 0);
-    assert_eq!(rt; place.write_all(&bytes), Written::Whole);
-    assert_eq!(rt; went(&place), 1_904);
+    let whole = place.write_all(&bytes);
+    assert_eq!(rt;
+        (first, whole, went(&place)),
+        (Ok(1_000), Written::Whole, 1_904)
+    );
     Ok(())
 }
 
@@ -332,8 +353,11 @@ fn each_line_is_written_for_itself(rt: HostRuntime) {
         given: [0; 6],
         calls: 0,
     };
-    assert_eq!(rt; sink.write_lines(LINES), (Written::Whole, 16));
-    assert_eq!(rt; sink.given, [3, 8, 3, 1, 2, 2]);
+    let wrote = sink.write_lines(LINES);
+    assert_eq!(rt;
+        (wrote, sink.given),
+        ((Written::Whole, 16), [3, 8, 3, 1, 2, 2])
+    );
 }
 
 #[test]
@@ -373,8 +397,8 @@ fn a_writer_takes_all_lines_at_once(rt: HostRuntime) -> Result<(), Fail> {
     };
     let sink: Box<dyn Sink> = Box::new(alloc, WriterSink::over(writer))?;
     let mut place = OutPlace::Live(OutPort::Boxed(sink), 0);
-    assert_eq!(rt; place.write_lines(LINES), (Written::Whole, 16));
-    assert_eq!(rt; calls.get(), 1);
+    let wrote = place.write_lines(LINES);
+    assert_eq!(rt; (wrote, calls.get()), ((Written::Whole, 16), 1));
     Ok(())
 }
 
@@ -384,11 +408,11 @@ fn each_frame_is_written_for_itself(rt: HostRuntime) -> Result<(), Fail> {
     let sink = ListedSink::with_room(alloc, 99_999, [3_u32].to_vec(alloc)?)?;
     let mut place = OutPlaceOf::Live(sink, 0);
     let frames = vec![in alloc; 0u8; 4 * LINE_FRAME_BYTES]?;
+    let wrote = (place.write_frames(&frames), place.write_frames(&frames));
     assert_eq!(rt;
-        place.write_frames(&frames),
-        (Written::Lost, 2 * LINE_FRAME_BYTES)
+        wrote,
+        ((Written::Lost, 2 * LINE_FRAME_BYTES), (Written::Whole, 0))
     );
-    assert_eq!(rt; place.write_frames(&frames), (Written::Whole, 0));
     Ok(())
 }
 
@@ -401,10 +425,10 @@ fn a_writer_takes_all_frames_at_once(rt: HostRuntime) -> Result<(), Fail> {
     };
     let mut place = OutPlaceOf::Live(WriterSink::over(writer), 0);
     let frames = vec![in alloc; 0u8; 8 * LINE_FRAME_BYTES]?;
+    let wrote = place.write_frames(&frames);
     assert_eq!(rt;
-        place.write_frames(&frames),
-        (Written::Whole, 8 * LINE_FRAME_BYTES)
+        (wrote, calls.get()),
+        ((Written::Whole, 8 * LINE_FRAME_BYTES), 1)
     );
-    assert_eq!(rt; calls.get(), 1);
     Ok(())
 }
