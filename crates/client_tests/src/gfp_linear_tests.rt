@@ -77,12 +77,13 @@ fn answer<'a>(maker: &mut ChannelMaker, rest: &'a [u8]) -> &'a [u8] {
 fn bytes_are_given_in_blocks(rt: HostRuntime) -> Result<(), Fail> {
     if let Some(mut maker) = ChannelMaker::new(rt.alloc(), &[7])? {
         let mut made = [0u8; 6];
-        assert_eq!(rt; maker.give_bytes(&mut made), 4);
-        assert_eq!(rt; maker.give_bytes(&mut made[4..]), 0);
-        assert!(rt; made[..4] == WOVEN[..4]);
+        let first = maker.give_bytes(&mut made);
+        let then = maker.give_bytes(&mut made[4..]);
+        assert_eq!(rt; (first, then, &made[..4]), (4, 0, &WOVEN[..4]));
     }
-    assert!(rt; ChannelMaker::new(rt.alloc(), &[7, 7])?.is_none());
-    assert!(rt; ChannelMaker::new(rt.alloc(), &[])?.is_none());
+    let twice = ChannelMaker::new(rt.alloc(), &[7, 7])?.is_none();
+    let nowhere = ChannelMaker::new(rt.alloc(), &[])?.is_none();
+    assert_eq!(rt; (twice, nowhere), (true, true));
     Ok(())
 }
 

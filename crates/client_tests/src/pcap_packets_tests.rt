@@ -44,31 +44,21 @@ fn text_of(
 #[test]
 fn texts_of_captures(rt: HostRuntime) -> Result<(), Fail> {
     let alloc = rt.alloc();
+    let cases: [(&[u8], &[u8]); 5] = [
+        (&LOW, b"1111\nff\n"),
+        (&HIGH, b"1111\nff\n"),
+        (&LOW[..58], b"1111\n!\n"),
+        (&LOW[..24], b""),
+        (&LOW[..23], b"!\n"),
+    ];
     for most in [1usize, 3, 16, 100] {
-        assert_eq!(rt;
-            text_of(alloc, &LOW, most, &[])?.0.as_slice(),
-            b"1111\nff\n".as_slice()
-        );
-        assert_eq!(rt;
-            text_of(alloc, &HIGH, most, &[])?.0.as_slice(),
-            b"1111\nff\n".as_slice()
-        );
-        assert_eq!(rt;
-            text_of(alloc, &LOW[..58], most, &[])?.0.as_slice(),
-            b"1111\n!\n".as_slice()
-        );
-        assert_eq!(rt;
-            text_of(alloc, &LOW[..24], most, &[])?.0.as_slice(),
-            b"".as_slice()
-        );
-        assert_eq!(rt;
-            text_of(alloc, &LOW[..23], most, &[])?.0.as_slice(),
-            b"!\n".as_slice()
-        );
+        for (capture, wanted) in &cases {
+            let (text, _) = text_of(alloc, *capture, most, &[])?;
+            assert_eq!(rt; text.as_slice(), *wanted, "by {most}");
+        }
     }
     let (text, failed) = text_of(alloc, &HIGH, 7, &[1, 3, 4, 9])?;
-    assert_eq!(rt; text.as_slice(), b"1111\nff\n".as_slice());
-    assert_eq!(rt; failed, 4);
+    assert_eq!(rt; (text.as_slice(), failed), (b"1111\nff\n".as_slice(), 4));
     Ok(())
 }
 
@@ -79,20 +69,27 @@ fn captures_of_lines(rt: HostRuntime) -> Result<(), Fail> {
     let failing = Vec::from_slice(alloc, &[1u32])?;
     let inner = ListedSink::with_room(alloc, 1000, failing).map_err(|_memory| AllocError)?;
     let mut sink = PcapSink::new(alloc, inner).map_err(|_memory| AllocError)?;
-    assert_eq!(rt; sink.write(b"1111\n"), Ok(4));
-    assert_eq!(rt; sink.write(b"\n"), Err(Failed));
-    assert_eq!(rt; sink.write(b"2"), Err(Failed));
-    assert_eq!(rt; sink.write(b"\n"), Ok(1));
-    assert_eq!(rt; sink.write(b"\n"), Err(Failed));
-    assert_eq!(rt; sink.write(b"ff"), Ok(2));
-    assert_eq!(rt; sink.write(b"A"), Err(Failed));
-    assert_eq!(rt; sink.write(b"\n"), Ok(1));
+    let calls: [(&[u8], Result<usize, Failed>); 8] = [
+        (b"1111\n", Ok(4)),
+        (b"\n", Err(Failed)),
+        (b"2", Err(Failed)),
+        (b"\n", Ok(1)),
+        (b"\n", Err(Failed)),
+        (b"ff", Ok(2)),
+        (b"A", Err(Failed)),
+        (b"\n", Ok(1)),
+    ];
+    for (n, (text, answer)) in calls.iter().enumerate() {
+        assert_eq!(rt; sink.write(*text), *answer, "call {n}");
+    }
     let bytes = match sink.inner().kept() {
         Some(bytes) => bytes,
         None => &[],
     };
-    assert_eq!(rt; &bytes[..bytes.len().min(42)], &LOW[..42]);
-    assert_eq!(rt; bytes.len(), 59);
+    assert_eq!(rt;
+        (&bytes[..bytes.len().min(42)], bytes.len()),
+        (&LOW[..42], 59)
+    );
     let (text, _) = text_of(alloc, bytes, 16, &[])?;
     assert_eq!(rt; text.as_slice(), b"1111\nff\n".as_slice());
     Ok(())
