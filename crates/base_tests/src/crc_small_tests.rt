@@ -9,13 +9,16 @@ use std::test::Fail;
 
 #[test]
 fn frame_checks(rt: HostRuntime) {
-    // CRC-32/BZIP2 of the catalogue, which has this generator, inverts both ends and reflects nothing.
-    assert_eq!(rt; crc32(b"123456789"), 0xFC89_1918);
-    assert_eq!(rt; crc32(b""), 0);
-    // The CRC that bzip2 writes of these 43 bytes.
+    // CRC-32/BZIP2 of the catalogue, which has this generator, inverts both ends and reflects nothing; and the CRC
+    // that bzip2 writes of the last 43 bytes.
+    let texts: [&[u8]; 3] = [
+        b"123456789",
+        b"",
+        b"The quick brown fox jumps over the lazy dog",
+    ];
     assert_eq!(rt;
-        crc32(b"The quick brown fox jumps over the lazy dog"),
-        0x459D_EE61
+        [crc32(texts[0]), crc32(texts[1]), crc32(texts[2])],
+        [0xFC89_1918, 0, 0x459D_EE61]
     );
 }
 
@@ -63,10 +66,15 @@ fn long_frame_checks(rt: HostRuntime) -> Result<(), Fail> {
 #[test]
 fn header_checks(rt: HostRuntime) {
     // CRC-16/XMODEM of the catalogue, then GFP headers.
-    assert_eq!(rt; crc16(b"123456789"), 0x31C3);
-    assert_eq!(rt; crc16(&[0x00, 0x06]), 0x60C6);
-    assert_eq!(rt; crc16(&[0x10, 0x01]), 0x1352);
-    assert_eq!(rt; crc16(&[0x00, 0x01]), 0x1021);
+    assert_eq!(rt;
+        [
+            crc16(b"123456789"),
+            crc16(&[0x00, 0x06]),
+            crc16(&[0x10, 0x01]),
+            crc16(&[0x00, 0x01]),
+        ],
+        [0x31C3, 0x60C6, 0x1352, 0x1021]
+    );
 }
 
 #[test]

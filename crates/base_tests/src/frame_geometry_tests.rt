@@ -20,11 +20,14 @@ fn line_frame_places(rt: HostRuntime) -> Result<(), Fail> {
         (4, 4080, 16319),
     ] {
         frame.set(row, col, 165);
-        assert_eq!(rt; frame.get(row, col), 165, "row {row}, column {col}");
-        assert_eq!(rt; frame.overhead(row, col.min(16)) == 165, col <= 16);
+        let is_overhead = frame.overhead(row, col.min(16)) == 165;
         assert_eq!(rt;
-            byte_at(frame.as_bytes(), place),
-            165,
+            (
+                frame.get(row, col),
+                is_overhead,
+                byte_at(frame.as_bytes(), place)
+            ),
+            (165, col <= 16, 165),
             "row {row}, column {col}"
         );
         frame.set(row, col, 0);
@@ -36,9 +39,14 @@ fn line_frame_places(rt: HostRuntime) -> Result<(), Fail> {
 fn client_frame_rows(rt: HostRuntime) -> Result<(), Fail> {
     let mut frame = Frame::<3824>::new(rt.alloc())?;
     frame.payload_row_mut(4)[3807] = 77;
-    assert_eq!(rt; frame.get(4, 3824), 77);
-    assert_eq!(rt; frame.payload_row(4)[3807], 77);
-    assert_eq!(rt; byte_at(frame.as_bytes(), 15295), 77);
+    assert_eq!(rt;
+        [
+            frame.get(4, 3824),
+            frame.payload_row(4)[3807],
+            byte_at(frame.as_bytes(), 15295),
+        ],
+        [77; 3]
+    );
     frame.as_bytes_mut()[16] = 78;
     assert_eq!(rt; frame.payload_row(1)[0], 78);
     frame.clear();

@@ -28,16 +28,16 @@ fn groups_of_known_numbers(rt: HostRuntime) {
         let mut data = 0u64;
         for j in 1..15_233u32 {
             let listed = j % divisor.max(1) == remainder;
-            let here = is_data(j, c.min(ALL));
-            assert_eq!(rt; here, listed != stuff, "group {j} at {c}");
-            assert_eq!(rt; runner.next(), here, "call {j} at {c}");
-            if here {
+            let wanted = listed != stuff;
+            if wanted {
                 data = data.saturating_add(1);
             }
+            let here = is_data(j, c.min(ALL));
+            let counted = data_groups(j, c.min(ALL)) as u64;
             assert_eq!(rt;
-                data_groups(j, c.min(ALL)) as u64,
-                data,
-                "groups to {j} at {c}"
+                (here, runner.next(), counted),
+                (wanted, wanted, data),
+                "group {j} at {c}"
             );
         }
         assert_eq!(rt; data, count as u64, "all groups at {c}");

@@ -41,12 +41,11 @@ fn numbers_heard(rt: HostRuntime) {
         ),
         ([0x47, 0xAA, 0x6E], Heard::Damaged, Heard::Damaged),
     ] {
-        assert_eq!(rt; Listener::new().hear(bytes), anew);
         let mut listener = Listener::new();
+        let before = listener.hear([0xED, 0x03, 0x2E]);
         assert_eq!(rt;
-            listener.hear([0xED, 0x03, 0x2E]),
-            Heard::Accepted(15168, true)
+            (Listener::new().hear(bytes), before, listener.hear(bytes)),
+            (anew, Heard::Accepted(15168, true), kept)
         );
-        assert_eq!(rt; listener.hear(bytes), kept);
     }
 }

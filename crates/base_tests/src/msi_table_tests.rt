@@ -47,8 +47,7 @@ fn psi_of_two_tributaries(rt: HostRuntime) -> Result<(), Fail> {
         assert_eq!(rt; psi_byte(mfas, &map), byte, "PSI[{mfas}]");
     }
     map.free(&odu0);
-    assert_eq!(rt; map.port(3), 0);
-    assert_eq!(rt; map.port(8), 2);
+    assert_eq!(rt; (map.port(3), map.port(8)), (0, 2));
     Ok(())
 }
 

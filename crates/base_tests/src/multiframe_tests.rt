@@ -28,43 +28,42 @@ fn begins_at_a_multiple_of_the_slots(rt: HostRuntime) {
         (9, 10, false, false),
         (255, 0, false, false),
     ] {
-        assert_eq!(rt;
+        let begins = (
             starts(first, second, LineKind::Otu2),
-            of_eight,
-            "{first} {second}"
-        );
-        assert_eq!(rt;
             starts(first, second, LineKind::Otu3),
-            of_32,
-            "{first} {second}"
         );
+        assert_eq!(rt; begins, (of_eight, of_32), "{first} {second}");
     }
+}
+
+// Whether such a turn is whole, and the MFAS that is expected n frames after it, if the line does not hunt then.
+fn ended(first: u8, taken: &[u8], kind: LineKind, n: u8) -> (bool, Option<u8>) {
+    let (whole, phase) = turn(first, taken, kind);
+    if phase.hunting() || n >= kind.slots() {
+        return (whole, None);
+    }
+    (whole, Some(phase.expected(n)))
 }
 
 #[test]
 fn ends_turns(rt: HostRuntime) {
-    let (whole, phase) = turn(
-        248,
-        &[248, 249, 250, 251, 252, 253, 254, 255],
-        LineKind::Otu2,
-    );
-    assert!(rt; whole);
-    assert!(rt; !phase.hunting());
-    assert_eq!(rt; phase.expected(0), 0, "round at 256");
-
-    let (whole, phase) = turn(8, &[8, 9, 10, 11, 0, 0, 0, 0], LineKind::Otu2);
-    assert!(rt; whole, "four are wrong");
-    assert!(rt; !phase.hunting());
-    assert_eq!(rt; phase.expected(7), 23);
-
-    let (whole, phase) = turn(8, &[8, 9, 10, 0, 0, 0, 0, 0], LineKind::Otu2);
-    assert!(rt; !whole, "five are wrong");
-    assert!(rt; phase.hunting());
-
-    let (whole, phase) = turn(8, &[8, 9, 10, 11, 12, 13, 14], LineKind::Otu2);
-    assert!(rt; !whole, "cut short");
-    assert!(rt; !phase.hunting());
-    assert_eq!(rt; phase.expected(0), 8);
+    let cases: [(u8, &[u8], u8, (bool, Option<u8>)); 4] = [
+        // round at 256
+        (
+            248,
+            &[248, 249, 250, 251, 252, 253, 254, 255],
+            0,
+            (true, Some(0)),
+        ),
+        // four are wrong, and five
+        (8, &[8, 9, 10, 11, 0, 0, 0, 0], 7, (true, Some(23))),
+        (8, &[8, 9, 10, 0, 0, 0, 0, 0], 0, (false, None)),
+        // cut short
+        (8, &[8, 9, 10, 11, 12, 13, 14], 0, (false, Some(8))),
+    ];
+    for (first, taken, n, wanted) in cases {
+        assert_eq!(rt; ended(first, taken, LineKind::Otu2, n), wanted, "{taken:?}");
+    }
 }
 
 // The MFAS bytes from 64 to 95, of which the last `wrong` are 0.
@@ -82,20 +81,16 @@ fn of_32(wrong: u8) -> [u8; 32] {
 
 #[test]
 fn ends_turns_of_32(rt: HostRuntime) {
-    let (whole, phase) = turn(64, &of_32(5), LineKind::Otu3);
-    assert!(rt; whole, "five are wrong");
-    assert!(rt; !phase.hunting());
-    assert_eq!(rt; phase.expected(31), 127);
-
-    let (whole, _) = turn(64, &of_32(16), LineKind::Otu3);
-    assert!(rt; whole, "sixteen are wrong");
-
-    let (whole, phase) = turn(64, &of_32(17), LineKind::Otu3);
-    assert!(rt; !whole, "seventeen are wrong");
-    assert!(rt; phase.hunting());
-
-    let (whole, phase) = turn(64, &[64, 65, 66, 67, 68, 69, 70, 71], LineKind::Otu3);
-    assert!(rt; !whole, "eight frames are no multiframe of 32");
-    assert!(rt; !phase.hunting());
-    assert_eq!(rt; phase.expected(0), 64);
+    let eight = [64, 65, 66, 67, 68, 69, 70, 71];
+    let (by_sixteen, _) = turn(64, &of_32(16), LineKind::Otu3);
+    // five are wrong, sixteen, and seventeen; and eight frames are no multiframe of 32
+    assert_eq!(rt;
+        (
+            ended(64, &of_32(5), LineKind::Otu3, 31),
+            by_sixteen,
+            ended(64, &of_32(17), LineKind::Otu3, 0),
+            ended(64, &eight, LineKind::Otu3, 0)
+        ),
+        ((true, Some(127)), true, (false, None), (false, Some(64)))
+    );
 }

@@ -227,12 +227,16 @@ fn slots_one_after_another(rt: HostRuntime) -> Result<(), Fail> {
     let mut by_slots = filled_slots(rt.alloc())?;
     let mut joined = Frame::<4080>::new(rt.alloc())?;
     let payload = by_slots.join_into(&mut joined);
-    assert_eq!(rt; is_same(&joined, &frame), true);
-    assert_eq!(rt; first_unlike_in(&joined, &JOINED), 0);
-    assert_eq!(rt; payload, payload_parity(&frame));
+    assert_eq!(rt;
+        (
+            is_same(&joined, &frame),
+            first_unlike_in(&joined, &JOINED),
+            payload
+        ),
+        (true, 0, payload_parity(&frame))
+    );
     by_slots.clear();
     let payload = by_slots.join_into(&mut joined);
-    assert_eq!(rt; is_clear(&joined), true);
-    assert_eq!(rt; payload, 0);
+    assert_eq!(rt; (is_clear(&joined), payload), (true, 0));
     Ok(())
 }

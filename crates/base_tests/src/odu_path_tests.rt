@@ -20,11 +20,11 @@ fn path_of_a_client(rt: HostRuntime) -> Result<(), Fail> {
         frame.set(4, 15, psi);
         frame.set(2, 14, 9);
         writer.write(&mut frame, mfas, &trace);
-        assert_eq!(rt; frame.get(2, 14), 0);
-        assert_eq!(rt; frame.get(3, 10), tti);
-        assert_eq!(rt; frame.get(3, 11), bip);
-        assert_eq!(rt; frame.get(3, 12), 1);
-        assert_eq!(rt; stat(&frame), 1);
+        let path = [frame.get(3, 10), frame.get(3, 11), frame.get(3, 12)];
+        assert_eq!(rt;
+            (frame.get(2, 14), path, stat(&frame)),
+            (0, [tti, bip, 1], 1)
+        );
         if mfas == 2 {
             frame.set(3, 11, 4);
         }

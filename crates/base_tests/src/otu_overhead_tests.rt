@@ -22,11 +22,13 @@ fn section_of_five_frames(rt: HostRuntime) -> Result<(), Fail> {
         frame.set(2, 4080, 7);
         frame.set(2, 3824, 0);
         writer.write(&mut frame, mfas, &trace);
-        assert_eq!(rt; frame.get(1, 6), 0x28);
-        assert_eq!(rt; frame.get(1, 7), mfas);
-        assert_eq!(rt; frame.get(1, 8), tti);
-        assert_eq!(rt; frame.get(1, 9), bip);
-        assert_eq!(rt; frame.get(2, 4080), 0);
+        let section = [
+            frame.get(1, 6),
+            frame.get(1, 7),
+            frame.get(1, 8),
+            frame.get(1, 9),
+        ];
+        assert_eq!(rt; (section, frame.get(2, 4080)), ([0x28, mfas, tti, bip], 0));
         if mfas == 3 {
             frame.set(1, 9, 1);
             frame.set(1, 1, 0);
@@ -34,8 +36,7 @@ fn section_of_five_frames(rt: HostRuntime) -> Result<(), Fail> {
         check.take(&frame);
         mfas = mfas.wrapping_add(1);
     }
-    assert_eq!(rt; check.fas(), 1);
-    assert_eq!(rt; check.sm(), 1);
+    assert_eq!(rt; (check.fas(), check.sm()), (1, 1));
     Ok(())
 }
 
