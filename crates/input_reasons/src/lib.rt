@@ -5,7 +5,8 @@
 //! - `capture`: captures, and why one is none.
 //! - `line`: lines, and whether one looks like a line.
 //!
-//! It proves that all this is safe and ends. That the words are right is tested.
+//! It proves that all this is safe and ends, how many client frames packets need, and which counts of frames make a
+//! file no line. That the words are right, and the counts those of the file, is tested.
 #![tactic(auto)]
 
 mod bad_line;

@@ -1,10 +1,10 @@
 // Whether a file looks like a line.
+ghost use Rattle.std.specs.Prelude.{◌≤◌, ◌<◌, ◌+◌, ◌*◌, ◌↔◌, IsTrue};
+
 use otn_base::Memory;
+use otn_base::limits::LINE_FRAME_BYTES;
 use port_base::{Reading, Source, read_whole};
 use std::alloc::{AllocError, Global};
-
-/// Bytes of a frame.
-const FRAME: usize = 16_320;
 
 /// The most frames that are looked at.
 const MOST_FRAMES: u32 = 32;
@@ -29,21 +29,33 @@ pub struct LineLook {
 
 impl LineLook {
     /// Whether three of four frames, or more, lack a FAS: no line, or one that does not begin at a frame.
-    pub fn is_no_line(&self) -> bool {
-        self.frames > 0 && self.aligned.saturating_mul(4) <= self.frames
+    pub fn is_no_line(&self) -> bool
+        ensures { IsTrue result ↔ ((0 < self.now.frames) × (4 * self.now.aligned ≤ self.now.frames)) }
+    {
+        self.frames > 0 && 4 * u64::from(self.aligned) <= u64::from(self.frames)
     }
 
-    /// Whether the MFAS mostly counts down, as on a scrambled line that is read as a plain one.
-    pub fn counts_down(&self) -> bool {
-        self.frames > 1
-            && self.falls.saturating_mul(4) >= self.frames.saturating_sub(1).saturating_mul(3)
+    /// Whether the MFAS mostly counts down, as on a scrambled line that is read as a plain one: at three of four frames
+    /// that have one before them, or more.
+    pub fn counts_down(&self) -> bool
+        ensures { IsTrue result ↔ ((1 < self.now.frames) × (3 * self.now.frames ≤ 4 * self.now.falls + 3)) }
+    {
+        self.frames > 1 && is_mostly(self.falls, self.frames)
     }
 
-    /// Whether the MFAS mostly counts up, as on a plain line.
-    pub fn counts_up(&self) -> bool {
-        self.frames > 1
-            && self.rises.saturating_mul(4) >= self.frames.saturating_sub(1).saturating_mul(3)
+    /// Whether the MFAS mostly counts up, as on a plain line: likewise.
+    pub fn counts_up(&self) -> bool
+        ensures { IsTrue result ↔ ((1 < self.now.frames) × (3 * self.now.frames ≤ 4 * self.now.rises + 3)) }
+    {
+        self.frames > 1 && is_mostly(self.rises, self.frames)
     }
+}
+
+// Whether so many are three of four, or more, of one less than the frames.
+fn is_mostly(many: u32, frames: u32) -> bool
+    ensures { IsTrue result ↔ (3 * frames ≤ 4 * many + 3) }
+{
+    3 * u64::from(frames) <= 4 * u64::from(many) + 3
 }
 
 /// Looks at the first frames of a file.
@@ -70,7 +82,7 @@ pub fn look_at_line<S: Source>(alloc: Global, source: &mut S) -> Result<LineLook
 
 // Room for a frame.
 fn frame_room(alloc: Global) -> Result<Vec<u8>, AllocError> {
-    vec![in alloc; 0; FRAME]
+    vec![in alloc; 0; LINE_FRAME_BYTES]
 }
 
 // Looks at a frame, which comes behind one with this MFAS, and says its own.
