@@ -1,5 +1,5 @@
 -- Two counts of faults taken together, as far as 64 bits go.
-use Rattle.std.proofs.Common.{◌≡◌, ◌⊎◌, inl, inr, ◌<◌, ◌≤◌, ◌+◌, ◌-◌, ◌^◌, min, ℕ, arith, refl}
+use Rattle.std.proofs.Common.{◌≡◌, ◌⊎◌, inl, inr, ◌<◌, ◌≤◌, ◌+◌, ◌-◌, ◌^◌, min, ℕ, arith}
 use Rattle.std.proofs.lemmas.Bool.{cases_lt}
 use Rattle.port_base.specs.Bytes.{HasFailed}
 

@@ -5,3 +5,7 @@ pub mod TributaryEvents
 pub mod SlotEvents
 pub mod EventText
 pub mod Shown
+pub mod ViewLines
+pub mod EventsOf
+pub mod Stands
+pub mod Steps

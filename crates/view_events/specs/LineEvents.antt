@@ -38,6 +38,11 @@ abbrev pub last_alignment : List TurnSaid → Option Alignment
 last_alignment [] = None
 last_alignment (turn ∷ past) = Some turn.alignment
 
+-- whether the last turn has its multiframe
+abbrev pub whole_now : List TurnSaid → Bool
+whole_now [] = false
+whole_now (turn ∷ past) = is_whole turn.alignment
+
 -- turns without a multiframe just before
 abbrev pub turns_without : List TurnSaid → ℕ
 turns_without past = how_many_last (λ turn. not (is_whole turn.alignment)) past

@@ -2,7 +2,7 @@
 -- shown, the last one first.
 use Rattle.std.specs.Prelude.{◌≡◌, ◌&&◌, ◌+◌, ℕ, Bool, true, false, not, max, List, [], ◌∷◌, Option, Some, None, if◌then◌else◌}
 use Rattle.std.specs.List.{find}
-use Rattle.view_events.specs.LineEvents.{is_whole}
+use Rattle.view_events.specs.LineEvents.{whole_now}
 use Rattle.view_events.specs.SlotEvents.{is_wrong_twice, msi_bytes}
 use Rattle.view_events.specs.declared.said.MsiSaid.{MsiSaid}
 use Rattle.view_events.specs.declared.said.TurnSaid.{TurnSaid}
@@ -89,12 +89,12 @@ abbrev pub marked_slot : (bytes : List MsiSaid) → (past : List TributarySaid) 
     → Option ℕ
 marked_slot bytes past slots right = find (λ slot. is_wrong_twice (msi_bytes slot bytes) (first_turn past) right) slots
 
--- Its event in a turn of the line: by what is said of the line and of it, by the MSI bytes that came up to then, and by
--- the turns before in which it was shown.
-abbrev pub tributary_event : TurnSaid → (bytes : List MsiSaid) → (past : List TributarySaid) → TributarySaid
-    → (slots : List ℕ) → (right : ℕ) → Option Change
-tributary_event turn bytes past now slots right =
-    change_of past now (is_whole turn.alignment) (marked_slot bytes past slots right)
+-- Its event in a turn of the line: by what is said of the line in its turns so far and of it, by the MSI bytes that
+-- came up to then, and by the turns before in which it was shown.
+abbrev pub tributary_event : (turns : List TurnSaid) → (bytes : List MsiSaid) → (past : List TributarySaid)
+    → TributarySaid → (slots : List ℕ) → (right : ℕ) → Option Change
+tributary_event turns bytes past now slots right =
+    change_of past now (whole_now turns) (marked_slot bytes past slots right)
 
 -- the numbers of these turns, but for the first one
 pub record TributaryCounts (past : List TributarySaid) (tally : TributaryTally) : Type 0 where

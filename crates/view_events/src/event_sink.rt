@@ -1,6 +1,8 @@
 // A sink that writes the events of a view.
-ghost use Rattle.std.specs.Prelude.{◌≡◌, ◌<◌, ◌≤◌, None, false, IsErr, OnErr, length};
-ghost use Rattle.port_base.specs.Bytes.{HasFailed};
+ghost use Rattle.std.specs.Prelude.{◌≡◌, ◌≢◌, ◌<◌, ◌≤◌, ◌+◌, ◌++◌, ◌∷◌, ℕ, [], List, None, false, IfOk, IsErr, OnErr, OnOk, length, slice_index, take};
+ghost use Rattle.port_base.specs.Bytes.{after, sent, HasFailed};
+ghost use Rattle.port_base.specs.PortViews.{SinkGot, SinkView, sink_view};
+ghost use Rattle.view_events.specs.Stands.{HasTaken, IsEnded};
 
 use crate::events::Events;
 use arrayvec::ArrayVec;
@@ -25,21 +27,23 @@ pub struct EventSink<K> {
     own: u64,
 }
 
-impl<K> EventSink<K> {
+impl<K: Sink> EventSink<K> {
+    ghost use Rattle.view_events.specs.EventPorts.{event_faults};
+
     /// Writes the events of a view to this sink.
-    pub fn new(alloc: Global, inner: K) -> EventSink<K> {
+    pub fn new(alloc: Global, inner: K) -> EventSink<K>
+        ensures { HasTaken K.Sink (sink_view K.Sink inner) [] result }
+    {
+        let line = ArrayVec::new();
+        let events = Events::new(alloc);
         EventSink {
             inner,
-            line: ArrayVec::new(),
-            events: Events::new(alloc),
+            line,
+            events,
             out: Vec::new(alloc),
             own: 0,
         }
     }
-}
-
-impl<K: Sink> EventSink<K> {
-    ghost use Rattle.view_events.specs.EventPorts.{event_faults};
 
     // A write that fails by itself.
     #[tactic(auto, using(crate::proofs::Counts::own_fault))]
@@ -50,6 +54,42 @@ impl<K: Sink> EventSink<K> {
     {
         self.own = self.own.saturating_add(1);
         Err(Failed)
+    }
+
+    // Takes these n bytes, the last of a line, and writes the events of the line.
+    #[tactic(auto, using(crate::proofs::Counts::later_faults, crate::proofs::Counts::inner_fault, crate::proofs::Counts::own_fault))]
+    fn end_line(&mut self, n: usize) -> Result<usize, Failed>
+        ensures bound { IfOk result (λ m. m ≡ n) }
+        ensures later { event_faults K.faults self.old ≤ event_faults K.faults self.new }
+        ensures cause { OnErr result (HasFailed (event_faults K.faults self.old) (event_faults K.faults self.new)) }
+        ensures well { OnOk result (event_faults K.faults self.new ≡ event_faults K.faults self.old) }
+        ensures ended { OnOk result (IsEnded K.Sink self.old self.new) }
+    {
+        self.out.clear();
+        let told = self.events.take_line(self.line.as_slice(), &mut self.out);
+        self.line.clear();
+        match told {
+            Ok(()) => Ok(self.send(n)?),
+            Err(_) => self.refuse(),
+        }
+    }
+
+    // Takes these n bytes, and writes the events that wait.
+    #[tactic(auto, using(crate::proofs::Counts::inner_fault, crate::proofs::Counts::later_faults))]
+    fn send(&mut self, n: usize) -> Result<usize, Failed>
+        ensures bound { IfOk result (λ m. m ≡ n) }
+        ensures later { event_faults K.faults self.old ≤ event_faults K.faults self.new }
+        ensures cause { OnErr result (HasFailed (event_faults K.faults self.old) (event_faults K.faults self.new)) }
+        ensures well { OnOk result (event_faults K.faults self.new ≡ event_faults K.faults self.old) }
+        ensures wrote { OnOk result (SinkGot (sink_view K.Sink self.old.inner) self.old.out.items
+            (sink_view K.Sink self.new.inner)) }
+        ensures line { self.new.line ≡ self.old.line }
+        ensures events { self.new.events ≡ self.old.events }
+    {
+        match write_whole(&mut self.inner, self.out.as_slice()) {
+            Written::Whole => Ok(n),
+            Written::Lost => Err(Failed),
+        }
     }
 }
 
@@ -63,27 +103,28 @@ impl<K: Sink> Sink for EventSink<K> {
     ghost keeps = { λ _. false };
 
     #[tactic(auto, using(crate::proofs::Counts::later_faults, crate::proofs::Counts::inner_fault, crate::proofs::Counts::own_fault))]
-    fn write(&mut self, bytes: &[u8]) -> Result<usize, Failed> {
+    fn write(&mut self, bytes: &[u8]) -> Result<usize, Failed>
+        ensures bound { IfOk result (λ n. n ≤ length bytes.now) }
+        ensures progress { IfOk result (λ n. 0 < length bytes.now → 0 < n) }
+        ensures later { event_faults K.faults self.old ≤ event_faults K.faults self.new }
+        ensures cause { OnErr result (HasFailed (event_faults K.faults self.old) (event_faults K.faults self.new)) }
+        ensures well { OnOk result (event_faults K.faults self.new ≡ event_faults K.faults self.old) }
+        ensures events { IfOk result (λ n. (first : SinkView) (text : List ℕ) → HasTaken K.Sink first text self.old
+            → HasTaken K.Sink first (text ++ take n bytes.now) self.new) }
+    {
         let n = first_line(bytes);
         if n == 0 {
             return Ok(0);
         }
-        if self.line.try_extend_from_slice(&bytes[..n]).is_err() {
+        let Ok(()) = self.line.try_extend_from_slice(&bytes[..n]) else {
             return self.refuse();
-        }
-        if bytes[n - 1] != LF {
+        };
+        let last = bytes[n - 1];
+        if last != LF {
             return Ok(n);
         }
-        self.out.clear();
-        let told = self.events.take_line(self.line.as_slice(), &mut self.out);
-        self.line.clear();
-        if told.is_err() {
-            return self.refuse();
-        }
-        match write_whole(&mut self.inner, self.out.as_slice()) {
-            Written::Whole => Ok(n),
-            Written::Lost => Err(Failed),
-        }
+        let taken = self.end_line(n)?;
+        Ok(taken)
     }
 
     fn kept(&self) -> Option<&[u8]> {
@@ -95,9 +136,10 @@ impl<K: Sink> Sink for EventSink<K> {
 fn first_line(bytes: &[u8]) -> usize
     ensures within { result ≤ length bytes.now }
     ensures some { 0 < length bytes.now → 0 < result }
+    ensures before { (k : ℕ) → k + 1 < result → slice_index bytes.now k ≢ 10 }
 {
-    for (n, byte) in bytes.iter().enumerate() {
-        if *byte == LF {
+    for n in 0..bytes.len() {
+        if bytes[n] == LF {
             return n + 1;
         }
     }

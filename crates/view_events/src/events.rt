@@ -1,12 +1,19 @@
 // The events of a line and of what is on it, turn by turn.
-ghost use Rattle.std.specs.Prelude.{◌≡◌, ◌<◌, ◌++◌, ◌∷◌, [], List, IfOk, IfSome, vec_len};
-ghost use Rattle.std.specs.List.{flat_map};
+ghost use Rattle.std.specs.Prelude.{◌≡◌, ◌≢◌, ◌<◌, ◌++◌, ◌∷◌, [], ℕ, List, IfNone, IfOk, IfSome, Some, slice_get, vec_len};
+ghost use Rattle.std.specs.List.{flat_map, position_or_len};
 ghost use Rattle.view_events.specs.declared.said.TurnSaid.{TurnSaid};
 ghost use Rattle.view_events.specs.declared.said.MsiSaid.{MsiSaid};
 ghost use Rattle.view_events.specs.declared.slot_events.TheConstants.{SLOTS};
 ghost use Rattle.view_events.specs.LineEvents.{LineStands};
 ghost use Rattle.view_events.specs.SlotEvents.{SlotStands};
 ghost use Rattle.view_events.specs.Shown.{IsToldAt, IsAdded, AfterLine};
+ghost use Rattle.view_events.specs.EventsOf.{Said, all_sums, label_of, nothing_said};
+ghost use Rattle.view_events.specs.Stands.{EventsStand, IsTold};
+ghost use Rattle.view_events.specs.Steps.Places.{IsKnownTold, IsNewTold, is_next};
+ghost use Rattle.view_events.specs.TributaryEvents.{TributaryStands};
+ghost use Rattle.view_events.specs.ViewLines.{IsTributaryLine, IsTurnLine, IsViewLine, OfMsi, OfTributary, OfTurn, TributaryLine, ViewLine, line_text};
+ghost use Rattle.view_events.specs.declared.said.TributarySaid.{TributarySaid};
+ghost use Rattle.view_events.specs.declared.tributary.Tributary.{Tributary};
 ghost use Rattle.view_events.specs.EventText.{turn_events_text, msi_events_text, line_sums_text, sums_text};
 
 use crate::event_text::{put_line_event, put_line_sums, put_msi_event};
@@ -15,9 +22,8 @@ use crate::said::{MsiSaid, TurnSaid};
 use crate::slot_events::SlotTally;
 use crate::tributary::Tributary;
 use crate::view_lines::{
-    is_of_label, label_said, msi_said, right_byte, slots_said, tributary_said, turn_said,
+    Kind, kind_of, label_said, msi_said, right_byte, slots_said, tributary_said, turn_said,
 };
-use crate::words::word_of;
 use otn_base::Memory;
 use std::alloc::{AllocError, Global};
 
@@ -33,7 +39,7 @@ pub struct Events {
     /// The tributaries that were shown, in the order of their first lines.
     tributaries: Vec<Tributary>,
     /// The turn whose lines come, from 1.
-    turn: u64,
+    pub turn: u64,
 }
 
 impl Events {
@@ -42,12 +48,16 @@ impl Events {
         ensures line { LineStands [] result.line }
         ensures slots { SlotStands [] result.slots }
         ensures tributaries { result.tributaries.items ≡ [] }
+        ensures stands { EventsStand nothing_said result }
     {
+        let line = LineTally::new();
+        let slots = SlotTally::new();
+        let tributaries = Vec::new(alloc);
         Events {
             alloc,
-            line: LineTally::new(),
-            slots: SlotTally::new(),
-            tributaries: Vec::new(alloc),
+            line,
+            slots,
+            tributaries,
             turn: 0,
         }
     }
@@ -60,6 +70,7 @@ impl Events {
         ensures line { IfOk result (λ _. (past : List TurnSaid) → LineStands past self.old.line
             → LineStands (said ∷ past) self.new.line) }
         ensures slots { IfOk result (λ _. self.new.slots ≡ self.old.slots) }
+        ensures turn { self.new.turn ≡ self.old.turn }
         ensures tributaries { self.new.tributaries ≡ self.old.tributaries }
     {
         let turn = said.number;
@@ -79,6 +90,7 @@ impl Events {
         ensures slots { IfOk result (λ _. (past : List MsiSaid) → SlotStands past self.old.slots
             → SlotStands (said ∷ past) self.new.slots) }
         ensures line { IfOk result (λ _. self.new.line ≡ self.old.line) }
+        ensures turn { self.new.turn ≡ self.old.turn }
         ensures tributaries { self.new.tributaries ≡ self.old.tributaries }
     {
         if self.slots.is_event(said) {
@@ -88,45 +100,81 @@ impl Events {
         Ok(())
     }
 
-    /// Takes a line of the view, with its LF, and appends the events that it brings. The first line and the last are
-    /// appended as they stand. Of the tributaries that were shown one is told at most, or one is added at the end: all
-    /// others stay as they are, in their places.
-    pub fn take_line(&mut self, with_end: &[u8], out: &mut Vec<u8>) -> Result<(), Memory>
-        ensures { IfOk result (λ _. AfterLine self.old.tributaries.items self.new.tributaries.items) }
+    /// Takes a line of the view, with its LF, and appends the events that it brings. The last line, and one that begins
+    /// with another word than those of turns, MSI bytes and tributaries, are appended as they stand. Of the tributaries
+    /// that were shown one is told at most, or one is added at the end: all others stay as they are, in their places.
+    pub fn take_line(&mut self, line: &[u8], out: &mut Vec<u8>) -> Result<(), Memory>
+        ensures after { IfOk result (λ _. AfterLine self.old.tributaries.items self.new.tributaries.items) }
+        ensures told { IfOk result (λ _. (said : Said) (one : ViewLine) → IsViewLine one → line.now ≡ line_text one
+            → EventsStand said self.old → IsTold said one self.new out.old.items out.new.items) }
     {
-        let line = without_end(with_end);
-        match word_of(line, 0) {
-            b"turn" => {
-                self.turn = turn_said(line).number;
-                Ok(self.take_turn(turn_said(line), out)?)
-            }
-            b"msi" => Ok(self.take_msi(msi_said(self.turn, line), out)?),
-            b"tributary" => self.take_tributary(line, out),
-            b"end" => {
-                out.extend_from_slice(with_end)?;
-                Ok(self.put_sums(out)?)
-            }
-            _ => Ok(out.extend_from_slice(with_end)?),
+        match kind_of(line) {
+            Kind::Turn => Ok(self.begin_turn(line, out)?),
+            Kind::Msi => Ok(self.note_msi(line, out)?),
+            Kind::Tributary => Ok(self.take_tributary(line, out)?),
+            Kind::End => Ok(self.end(line, out)?),
+            Kind::Other => Ok(out.extend_from_slice(line)?),
         }
+    }
+
+    // Takes the line of a turn.
+    fn begin_turn(&mut self, line: &[u8], out: &mut Vec<u8>) -> Result<(), AllocError>
+        ensures tributaries { self.new.tributaries ≡ self.old.tributaries }
+        ensures told { IfOk result (λ _. (said : Said) (frames : ℕ) (turn : TurnSaid) → IsTurnLine frames turn
+            → line.now ≡ line_text (OfTurn frames turn) → EventsStand said self.old
+            → IsTold said (OfTurn frames turn) self.new out.old.items out.new.items) }
+    {
+        let said = turn_said(line);
+        self.turn = said.number;
+        self.take_turn(said, out)?;
+        Ok(())
+    }
+
+    // Takes the line of an MSI byte.
+    fn note_msi(&mut self, line: &[u8], out: &mut Vec<u8>) -> Result<(), AllocError>
+        ensures tributaries { self.new.tributaries ≡ self.old.tributaries }
+        ensures told { IfOk result (λ _. (said : Said) (slot byte : ℕ) → slot < SLOTS → byte < 256
+            → line.now ≡ line_text (OfMsi slot byte) → EventsStand said self.old
+            → IsTold said (OfMsi slot byte) self.new out.old.items out.new.items) }
+    {
+        let said = msi_said(self.turn, line);
+        self.take_msi(said, out)?;
+        Ok(())
+    }
+
+    // Takes the last line.
+    fn end(&self, line: &[u8], out: &mut Vec<u8>) -> Result<(), AllocError>
+        ensures { IfOk result (λ _. (said : Said) → EventsStand said self.now
+            → out.new.items ≡ out.old.items ++ (line.now ++ all_sums said)) }
+    {
+        out.extend_from_slice(line)?;
+        self.put_sums(out)?;
+        Ok(())
     }
 
     // Takes the line of a tributary: of one that was shown before, or of a new one.
     fn take_tributary(&mut self, line: &[u8], out: &mut Vec<u8>) -> Result<(), Memory>
-        ensures { IfOk result (λ _. AfterLine self.old.tributaries.items self.new.tributaries.items) }
+        ensures after { IfOk result (λ _. AfterLine self.old.tributaries.items self.new.tributaries.items) }
+        ensures told { IfOk result (λ _. (said : Said) (x : TributaryLine) → IsTributaryLine x
+            → line.now ≡ line_text (OfTributary x) → EventsStand said self.old
+            → IsTold said (OfTributary x) self.new out.old.items out.new.items) }
     {
-        match self.place_of(line) {
+        let label = label_said(self.alloc, line)?;
+        match self.place_of(label.as_slice()) {
             Some(i) => Ok(self.tell_known(i, line, out)?),
-            None => self.tell_new(line, out),
+            None => Ok(self.tell_new(label, line, out)?),
         }
     }
 
-    // The first tributary that the line is of, and of which no line of this turn was yet.
-    fn place_of(&self, line: &[u8]) -> Option<usize>
-        ensures { IfSome result (λ i. i < vec_len self.now.tributaries) }
+    // The first tributary of this label of which no line of this turn was yet.
+    fn place_of(&self, label: &[u8]) -> Option<usize>
+        ensures some { IfSome result (λ i. (i < vec_len self.now.tributaries)
+            × (position_or_len (is_next self.now.turn label.now) self.now.tributaries.items ≡ i)) }
+        ensures none { IfNone result (position_or_len (is_next self.now.turn label.now) self.now.tributaries.items
+            ≡ vec_len self.now.tributaries) }
     {
         for i in 0..self.tributaries.len() {
-            let one = &self.tributaries[i];
-            if one.tally.last != self.turn && is_of_label(line, one.label.as_slice()) {
+            if self.tributaries[i].is_next(self.turn, label) {
                 return Some(i);
             }
         }
@@ -136,22 +184,38 @@ impl Events {
     // Tells of a tributary that was shown before.
     fn tell_known(&mut self, i: usize, line: &[u8], out: &mut Vec<u8>) -> Result<(), AllocError>
         requires { i < vec_len self.old.tributaries }
-        ensures { IfOk result (λ _. IsToldAt i self.old.tributaries.items self.new.tributaries.items) }
+        ensures at { IfOk result (λ _. IsToldAt i self.old.tributaries.items self.new.tributaries.items) }
+        ensures line { self.new.line ≡ self.old.line }
+        ensures slots { self.new.slots ≡ self.old.slots }
+        ensures turn { self.new.turn ≡ self.old.turn }
+        ensures told { IfOk result (λ _. (said : Said) (x : TributaryLine) → IsTributaryLine x
+            → line.now ≡ line_text (OfTributary x) → EventsStand said self.old → (one : Tributary)
+            → slice_get self.old.tributaries.items i ≡ Some one → (past : List TributarySaid) → past ≢ []
+            → TributaryStands past one.tally → IsKnownTold said x past i one self.old.tributaries.items
+            self.new.tributaries.items out.old.items out.new.items) }
     {
         let said = tributary_said(self.turn, line);
         let slots = slots_said(line);
         let right = right_byte(line);
-        self.tributaries[i].tell(said, slots.as_slice(), right, &self.line, &self.slots, out)
+        self.tributaries[i].tell(said, slots.as_slice(), right, &self.line, &self.slots, out)?;
+        Ok(())
     }
 
     // Tells of a new one.
-    fn tell_new(&mut self, line: &[u8], out: &mut Vec<u8>) -> Result<(), Memory>
-        ensures { IfOk result (λ _. IsAdded self.old.tributaries.items self.new.tributaries.items) }
+    fn tell_new(&mut self, label: Vec<u8>, line: &[u8], out: &mut Vec<u8>) -> Result<(), Memory>
+        ensures added { IfOk result (λ _. IsAdded self.old.tributaries.items self.new.tributaries.items) }
+        ensures line { self.new.line ≡ self.old.line }
+        ensures slots { self.new.slots ≡ self.old.slots }
+        ensures turn { self.new.turn ≡ self.old.turn }
+        ensures told { IfOk result (λ _. (said : Said) (x : TributaryLine) → IsTributaryLine x
+            → line.now ≡ line_text (OfTributary x) → EventsStand said self.old → label.items ≡ label_of x
+            → IsNewTold said x self.old.tributaries.items self.new.tributaries.items out.old.items out.new.items) }
     {
         let said = tributary_said(self.turn, line);
-        let label = label_said(self.alloc, line)?;
-        let one = Tributary::first_told(label, said, self.line.is_whole(), out)?;
-        Ok(self.tributaries.push(one)?)
+        let whole = self.line.is_whole();
+        let one = Tributary::first_told(label, said, whole, out)?;
+        self.tributaries.push(one)?;
+        Ok(())
     }
 
     /// Appends the sums of the line, and of each tributary.
@@ -172,12 +236,4 @@ fn put_each(tributaries: &[Tributary], out: &mut Vec<u8>) -> Result<(), AllocErr
         one.put_sums(out)?;
     }
     Ok(())
-}
-
-// A line without its LF.
-fn without_end(line: &[u8]) -> &[u8] {
-    match line {
-        [front @ .., b'\n'] => front,
-        _ => line,
-    }
 }

@@ -1,7 +1,7 @@
 // The events of a line, and the sums of all its turns.
 ghost use Rattle.std.specs.Prelude.{◌≡◌, [], ◌∷◌, List};
 ghost use Rattle.view_events.specs.declared.said.TurnSaid.{TurnSaid};
-ghost use Rattle.view_events.specs.LineEvents.{LineStands, alignment_event, alignment_told, lead_in_event, error_event, is_whole};
+ghost use Rattle.view_events.specs.LineEvents.{LineStands, alignment_event, alignment_told, lead_in_event, error_event, whole_now};
 
 use crate::said::{Alignment, TurnSaid};
 use crate::tally::{added, counted, run_on};
@@ -77,8 +77,7 @@ impl LineTally {
 
     /// Whether the last turn has its multiframe.
     pub fn is_whole(&self) -> bool
-        ensures { (turn : TurnSaid) (past : List TurnSaid) → LineStands (turn ∷ past) self.now
-            → result ≡ is_whole turn.alignment }
+        ensures { (past : List TurnSaid) → LineStands past self.now → result ≡ whole_now past }
     {
         self.last == Some(Alignment::Whole)
     }

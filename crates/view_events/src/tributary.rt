@@ -8,6 +8,7 @@ ghost use Rattle.view_events.specs.LineEvents.{LineStands};
 ghost use Rattle.view_events.specs.SlotEvents.{SlotStands};
 ghost use Rattle.view_events.specs.TributaryEvents.{TributaryStands, change_of, marked_slot, tributary_event};
 ghost use Rattle.view_events.specs.EventText.{changes_text, tributary_sums_text};
+ghost use Rattle.view_events.specs.Steps.Places.{is_next};
 
 use crate::event_text::{put_change, put_tributary_sums};
 use crate::line_events::LineTally;
@@ -57,10 +58,10 @@ impl Tributary {
         out: &mut Vec<u8>,
     ) -> Result<(), AllocError>
         requires { All (λ slot. slot < SLOTS) slots.now }
-        ensures told { IfOk result (λ _. (turn : TurnSaid) (turns : List TurnSaid) (bytes : List MsiSaid)
-            (past : List TributarySaid) → LineStands (turn ∷ turns) line.now → SlotStands bytes seen.now
+        ensures told { IfOk result (λ _. (turns : List TurnSaid) (bytes : List MsiSaid) (past : List TributarySaid)
+            → LineStands turns line.now → SlotStands bytes seen.now
             → TributaryStands past self.old.tally → out.new.items ≡ out.old.items
-            ++ changes_text said.turn self.old.label.items (tributary_event turn bytes past said slots.now right)) }
+            ++ changes_text said.turn self.old.label.items (tributary_event turns bytes past said slots.now right)) }
         ensures label { IfOk result (λ _. self.new.label ≡ self.old.label) }
         ensures stands { IfOk result (λ _. (past : List TributarySaid) → past ≢ []
             → TributaryStands past self.old.tally → TributaryStands (said ∷ past) self.new.tally) }
@@ -98,6 +99,14 @@ impl Tributary {
         put_change(out, said.turn, self.label.as_slice(), change)?;
         self.tally.take_next(said);
         Ok(())
+    }
+
+    /// Whether a line in this turn of a tributary of this label may be its: it has this label, and no line of this turn
+    /// was of it yet.
+    pub(crate) fn is_next(&self, turn: u64, label: &[u8]) -> bool
+        ensures { result ≡ is_next turn label.now self.now }
+    {
+        self.tally.last != turn && label == self.label.as_slice()
     }
 
     /// Writes its sums.

@@ -1,0 +1,4 @@
+-- What private contracts alone cite: the steps of functions. No promise stands on them.
+pub mod Words
+pub mod Places
+pub mod Kinds
