@@ -3,6 +3,8 @@ use Rattle.std.specs.Prelude.{◌≡◌, ℕ, List}
 use Rattle.port_base.specs.Views.{BaysView}
 use Rattle.plan_file.specs.declared.plan.Plan.{Plan}
 use Rattle.device_model.specs.Report.{Numbers}
+use Rattle.device_model.specs.declared.outcome.Outcome.TheVariants as outcome
+use Rattle.node_core.specs.Settling.{ToldBy}
 use Rattle.node_moments.specs.NodeView.{NodeView}
 use Rattle.node_moments.specs.Stands.{InputBytes}
 use Rattle.live_laws.specs.Live.{with_line, with_client, LiveStands, LeavesAsRun}
@@ -45,3 +47,8 @@ pub record IsStill (old new : NodeView) (was is : BaysView) : Type 0 where
 abbrev pub HasLeft : (old : NodeView) → (was is : BaysView) → Numbers → Type 0
 HasLeft old was is numbers = (plan : Plan) (handed : InputBytes) → LiveStands plan handed old was
     → LeavesAsRun plan handed is numbers
+
+-- these are the numbers of its ports and connections as it stands, of whatever plan it is; its run is unfinished
+pub record TellsNow (node : NodeView) (numbers : Numbers) : Type 0 where
+  pub told : (plan : Plan) → ToldBy plan node numbers
+  pub outcome : numbers.outcome ≡ outcome.Unfinished

@@ -19,4 +19,4 @@ mod serving;
 
 pub use client_watch::Lack;
 pub use live_node::{LiveNode, Turned};
-pub use places::HandedIn;
+pub use places::{HandedIn, Places};

@@ -1,5 +1,5 @@
 // A node that is driven turn by turn.
-ghost use Rattle.std.specs.Prelude.{◌≡◌, ◌≢◌, ◌≤◌, ◌<◌, ◌+◌, [], None, Ok, IfOk, MatchOption};
+ghost use Rattle.std.specs.Prelude.{◌≡◌, ◌≢◌, ◌≤◌, ◌<◌, ◌+◌, ◌↔◌, [], None, Ok, IfOk, IsTrue, MatchOption};
 ghost use Rattle.plan_file.specs.Answer.{fault_in};
 ghost use Rattle.device_model.specs.Report.{report_text};
 ghost use Rattle.device_model.specs.RunNumbers.{numbers_of_run};
@@ -7,7 +7,7 @@ ghost use Rattle.node_moments.specs.Stands.{no_bytes};
 ghost use Rattle.live_laws.specs.Live.{AreServed, LiveStands};
 ghost use Rattle.live_laws.specs.LiveTurns.{inputs_of, HaveLeft};
 ghost use Rattle.live_node.specs.Kept.{HandsOutSince, KeepsAll, KeepsOutputs};
-ghost use Rattle.live_node.specs.Live.{GoesOn, HasLeft, IsStill, PutsOut, PutsOutOfLine, PutsOutOfPackets, TakesLine, TakesPackets};
+ghost use Rattle.live_node.specs.Live.{GoesOn, HasLeft, IsStill, PutsOut, PutsOutOfLine, PutsOutOfPackets, TakesLine, TakesPackets, TellsNow};
 ghost use Rattle.live_node.specs.Places.{places, line_kept, client_kept};
 
 use crate::client_watch::{ClientWatch, are_lines};
@@ -19,6 +19,7 @@ use crate::places::{
 use crate::serving::serve_outputs;
 use crate::{HandedIn, Lack};
 use arrayvec::ArrayString;
+use device_model::Outcome;
 use network_core::end_turn;
 use node_core::{Node, RunNumbers};
 use otn_base::limits::{CLIENTS, LINES};
@@ -42,9 +43,12 @@ pub enum Turned {
 /// alone, so it is there before anything is handed in for that turn.
 #[derive(Drop)]
 pub struct LiveNode {
-    plan: Plan,
-    node: Node,
-    bays: Places,
+    /// The plan.
+    pub plan: Plan,
+    /// The node, which says at which moment of the plan it stands.
+    pub node: Node,
+    /// Its places, in memory.
+    pub bays: Places,
     lines: Vec<LineWatch>,
     clients: Vec<ClientWatch>,
     ghost accepted: { fault_in plan ≡ None },
@@ -61,6 +65,7 @@ impl LiveNode {
         ensures served { IfOk result (λ live. AreServed live.node) }
         ensures left { IfOk result (λ live. HaveLeft plan (inputs_of plan no_bytes) live.node (places live.bays)) }
         ensures handed { IfOk result (λ live. KeepsAll live.node live.bays) }
+        ensures plan { IfOk result (λ live. live.plan ≡ plan) }
     {
         let mut node = Node::build(alloc, &plan)?;
         let mut bays = open_places(alloc)?;
@@ -86,6 +91,13 @@ impl LiveNode {
         self.node.turn()
     }
 
+    /// Whether all turns of the plan are done.
+    pub fn is_over(&self) -> bool
+        ensures { IsTrue result ↔ (self.now.node.turns ≤ self.now.node.past) }
+    {
+        self.node.finished()
+    }
+
     /// Hands in whole frames of line input `a`, behind all others of it.
     pub fn hand_in_line(&mut self, a: u8, frames: &[u8]) -> Result<HandedIn, Memory>
         ensures taken { result ≡ Ok HandedIn.Taken → TakesLine a frames.now self.old.node self.new.node
@@ -95,6 +107,7 @@ impl LiveNode {
         ensures still { result ≢ Ok HandedIn.Taken → IsStill self.old.node self.new.node (places self.old.bays)
             (places self.new.bays) }
         ensures kept { KeepsOutputs self.old.bays self.new.bays }
+        ensures plan { self.new.plan ≡ self.old.plan }
     {
         if a >= LINES as u8 {
             return Ok(HandedIn::NoInput);
@@ -120,6 +133,7 @@ impl LiveNode {
         ensures still { result ≢ Ok HandedIn.Taken → IsStill self.old.node self.new.node (places self.old.bays)
             (places self.new.bays) }
         ensures kept { KeepsOutputs self.old.bays self.new.bays }
+        ensures plan { self.new.plan ≡ self.old.plan }
     {
         if n >= CLIENTS as u8 {
             return Ok(HandedIn::NoInput);
@@ -139,6 +153,7 @@ impl LiveNode {
     pub fn end_line(&mut self, a: u8)
         ensures still { IsStill self.old.node self.new.node (places self.old.bays) (places self.new.bays) }
         ensures kept { KeepsOutputs self.old.bays self.new.bays }
+        ensures plan { self.new.plan ≡ self.old.plan }
     {
         if let Some(watch) = self.lines.get_mut(a as usize) {
             watch.close();
@@ -149,6 +164,7 @@ impl LiveNode {
     pub fn end_client(&mut self, n: u8)
         ensures still { IsStill self.old.node self.new.node (places self.old.bays) (places self.new.bays) }
         ensures kept { KeepsOutputs self.old.bays self.new.bays }
+        ensures plan { self.new.plan ≡ self.old.plan }
     {
         if let Some(watch) = self.clients.get_mut(n as usize) {
             watch.close();
@@ -180,6 +196,7 @@ impl LiveNode {
             self.new.node (places self.old.bays) (places self.new.bays) }
         ensures kept { (turned : Turned) → result ≡ Ok turned → turned ≢ Turned.Done
             → KeepsOutputs self.old.bays self.new.bays }
+        ensures plan { self.new.plan ≡ self.old.plan }
     {
         if self.node.finished() {
             return Ok(Turned::Over);
@@ -218,8 +235,10 @@ impl LiveNode {
     /// The numbers of a run, once all turns of the plan were done: each line whose end was not seen is asked for one
     /// byte more. None before.
     pub fn finish(&mut self) -> Option<RunNumbers>
-        ensures { MatchOption result (self.old.node.past < self.old.node.turns) (λ numbers. HasLeft self.old.node
+        ensures left { MatchOption result (self.old.node.past < self.old.node.turns) (λ numbers. HasLeft self.old.node
             (places self.old.bays) (places self.new.bays) (numbers_of_run numbers)) }
+        ensures node { self.new.node ≡ self.old.node }
+        ensures plan { self.new.plan ≡ self.old.plan }
     {
         if !self.node.finished() {
             return None;
@@ -228,7 +247,15 @@ impl LiveNode {
         Some(self.node.numbers(outcome))
     }
 
-    /// Puts the report of a run that ended with these numbers into the empty text.
+    /// The numbers of the node as it stands: packets and frames by now, and what each connection was in the last turn
+    /// that is done. A run that is going on is unfinished.
+    pub fn numbers_now(&self) -> RunNumbers
+        ensures { TellsNow self.now.node (numbers_of_run result) }
+    {
+        self.node.numbers(Outcome::Unfinished)
+    }
+
+    /// Puts the report of a run with these numbers into the empty text.
     pub fn put_report(&self, numbers: &RunNumbers, text: &mut ArrayString<REPORT_BYTES>)
         requires empty { text.old.bytes ≡ [] }
         ensures { text.new.bytes ≡ report_text self.now.plan (numbers_of_run numbers.now) (places self.now.bays) }
@@ -273,6 +300,7 @@ impl LiveNode {
     fn note_line(&mut self, a: u8, frames: &[u8]) -> Result<(), Memory>
         ensures still { IsStill self.old.node self.new.node (places self.old.bays) (places self.new.bays) }
         ensures bays { self.new.bays ≡ self.old.bays }
+        ensures plan { self.new.plan ≡ self.old.plan }
     {
         match self.lines.get_mut(a as usize) {
             Some(watch) => watch.note(frames),
@@ -284,6 +312,7 @@ impl LiveNode {
     fn line_answered(&mut self, a: u8, answer: &Result<HandedIn, Memory>, frames: &[u8])
         ensures still { IsStill self.old.node self.new.node (places self.old.bays) (places self.new.bays) }
         ensures bays { self.new.bays ≡ self.old.bays }
+        ensures plan { self.new.plan ≡ self.old.plan }
     {
         if let Some(watch) = self.lines.get_mut(a as usize) {
             match answer {
@@ -298,6 +327,7 @@ impl LiveNode {
     fn client_answered(&mut self, n: u8, answer: &Result<HandedIn, Memory>, text: &[u8])
         ensures still { IsStill self.old.node self.new.node (places self.old.bays) (places self.new.bays) }
         ensures bays { self.new.bays ≡ self.old.bays }
+        ensures plan { self.new.plan ≡ self.old.plan }
     {
         if let Some(watch) = self.clients.get_mut(n as usize) {
             match answer {

@@ -28,7 +28,7 @@ pub enum HandedIn {
 }
 
 /// Places in memory.
-pub(crate) type Places = Rack<FilledSource, FilledSink>;
+pub type Places = Rack<FilledSource, FilledSink>;
 
 /// All places, to which nothing was handed in.
 pub(crate) fn open_places(alloc: Global) -> Result<Places, Memory>

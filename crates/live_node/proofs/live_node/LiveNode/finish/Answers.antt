@@ -3,8 +3,8 @@ use Rattle.live_node.specs.Places.{places}
 use Rattle.live_node.proofs.Calm.{calm}
 use Rattle.live_node.proofs.live_node.LiveNode.finish.Goals as goal
 
-pub returns : goal.returns
-returns c = λ plan handed h.
+pub returns-clause-left : goal.returns-clause-left
+returns-clause-left c = λ plan handed h.
     let settled = c.settle-outcome.ensures in
     let over : c.args.self.now.node.turns ≤ c.args.self.now.node.past = search rules in
     let left = c.numbers.ensures.left plan h.first (places c.settle-outcome.new.bays) (record {
