@@ -66,9 +66,12 @@
 extern "C" {
 #endif
 
-/* The version of this header, and of the library that it is for. It rises with each change of how a call is made or of
- * what it answers. */
-#define OTN_VERSION 1
+/* The version of this header, and of the library that it is for. It rises with each call that is added, and with each
+ * change of how one is made or of what it answers. */
+#define OTN_VERSION 2
+/* The number in the name of the shared library, libotn.so.1. It rises where a call goes or is changed, and not where
+ * calls are added: what was linked with an older library of that name runs with this one. */
+#define OTN_ABI 1
 
 /* How many inputs a call has, and how many outputs: lines 0 to 3 first, then clients 0 to 15. */
 #define OTN_PORTS 20
@@ -143,6 +146,77 @@ uint32_t otn_run(const uint8_t *words, size_t words_length,
                  size_t *output_ends, size_t output_ends_length,
                  uint8_t *report, size_t report_length,
                  struct otn_answer *told);
+
+/* ---- A node that is driven turn by turn: for simulators, rings, and lines that are sockets
+ *
+ * A node is opened by a plan. Then, for each turn, what comes of its inputs is handed in, and the turn is done; what
+ * leaves in the next turn is there then. What leaves in turn 1 is there as soon as the node is open, so nodes may stand
+ * in a ring. docs/LIVE.md has the rules, and examples/live/ring.c is a ring of three.
+ *
+ * PROVED of the library's code as it was before compilation: what has left a node is, at any moment, what its plan has
+ * due of all bytes that were handed in so far, whatever comes later; after a turn that is done, what `otn_left` puts out
+ * is what the output got since the turn before, each byte once; a call that is answered OTN_WAITS, OTN_OVER,
+ * OTN_NO_PORT, OTN_NOT_WHOLE or OTN_NO_CALL changes nothing of a node; each call but `otn_open` answers OTN_NO_CALL
+ * exactly where the handle is empty. NOT PROVED: that a turn waits only where its plan looks at more, and what `otn_lack`
+ * tells. */
+
+/* A handle: empty, or with a node that the library owns. Begin with OTN_NODE_INIT. Keep it where it is, copy it nowhere,
+ * write nothing to it, and hand it to one call at a time. Threads may call different nodes side by side; let one thread
+ * call a node from its opening to its end. A handle with a node has to be closed: all its memory is given back then, and
+ * the handle is empty and may be opened again. */
+struct otn_node {
+    void *at;
+};
+
+#define OTN_NODE_INIT { 0 }
+
+/* What calls of a node answer beside OTN_DONE, OTN_PLAN, OTN_MEMORY, OTN_NO_ROOM and OTN_NO_CALL. */
+enum otn_node_code {
+    OTN_WAITS = 10,    /* an input lacks something for the turn: `place` says which; nothing was done */
+    OTN_OVER = 11,     /* all turns of the plan were done: nothing was done */
+    OTN_NO_PORT = 12,  /* there is no such input or output, the plan does not use the input, or it has ended */
+    OTN_NOT_WHOLE = 13 /* the bytes are no whole frames of a line, or no whole lines of a client's text */
+};
+
+/* What calls of a node tell beside the code. It is written at all codes but OTN_NO_CALL. */
+struct otn_told {
+    uint32_t rule;  /* at OTN_PLAN the rule that the plan breaks, 1 to 15; else 0 */
+    uint64_t place; /* at OTN_PLAN where: 0 for the top, else the number of the connection, from 1. At OTN_WAITS the
+                     * number of the input. Of `otn_lack` how many empty lines. Else 0 */
+    size_t length;  /* how many bytes there are; of `otn_lack` the bytes of a packet. Else 0 */
+};
+
+/* Opens a node of a plan in an empty handle. Answers OTN_DONE, OTN_PLAN, OTN_MEMORY, or OTN_NO_CALL where the handle has
+ * a node. */
+uint32_t otn_open(const uint8_t *plan, size_t plan_length, struct otn_node *node, struct otn_told *told);
+
+/* Hands in bytes at an input, behind all others of it: at OTN_LINE(n) whole frames, at OTN_CLIENT(n) whole lines of
+ * packets. They are copied. Answers OTN_DONE, OTN_NO_PORT, OTN_NOT_WHOLE, OTN_MEMORY or OTN_NO_CALL; nothing is handed
+ * in but at OTN_DONE. */
+uint32_t otn_hand_in(struct otn_node *node, uint32_t input, const uint8_t *bytes, size_t length);
+
+/* Ends an input: no more comes of it, and no turn waits for it. Answers OTN_DONE, OTN_NO_PORT or OTN_NO_CALL. */
+uint32_t otn_end(struct otn_node *node, uint32_t input);
+
+/* Tells what a client lacks for the next turn: a packet of `length` bytes, if that is not 0, and else so many empty lines
+ * as `place` says. A client brings packets without a gap until it has ended. So hand in a packet of bytes 0, and ask
+ * again, until it lacks nothing. Of a line it tells 0 and 0. Answers OTN_DONE or OTN_NO_CALL. */
+uint32_t otn_lack(struct otn_node *node, uint32_t input, struct otn_told *told);
+
+/* Does a turn. Answers OTN_DONE, OTN_WAITS, OTN_OVER, OTN_NO_CALL, or OTN_MEMORY where there was none for what leaves:
+ * close the node then. */
+uint32_t otn_turn(struct otn_node *node, struct otn_told *told);
+
+/* Puts what leaves at an output in the next turn to the front of `room`: `told->length` bytes. It may be asked for again
+ * until the next turn. Answers OTN_DONE, OTN_NO_ROOM, OTN_NO_PORT or OTN_NO_CALL. */
+uint32_t otn_left(struct otn_node *node, uint32_t output, uint8_t *room, size_t room_length, struct otn_told *told);
+
+/* Puts the report to the front of `room`: `told->length` bytes. While turns are to come it has the numbers as they stand,
+ * and after the last one those of the run. Answers OTN_DONE, OTN_NO_ROOM or OTN_NO_CALL. */
+uint32_t otn_report(struct otn_node *node, uint8_t *room, size_t room_length, struct otn_told *told);
+
+/* Closes a node, at whatever moment. Answers OTN_DONE, or OTN_NO_CALL where the handle is empty. */
+uint32_t otn_close(struct otn_node *node);
 
 #ifdef __cplusplus
 }

@@ -49,6 +49,19 @@ speaks of this file, which is tested too.
 damages it by words, `otn.view` and `otn.events` tell what it carries and what happened on it, `otn.test_packets` and
 `otn.count` are packets that know their number and what came of them. docs/TUTORIAL-PYTHON.md shows them in a row.
 
+**Turn by turn**: `otn.Node` is a node that is handed what comes in a turn, and answers with what leaves in the next one,
+for simulators, rings and lines that are sockets. `otn.Fibre` is a fibre with a delay and damage. docs/LIVE.md has the
+rules.
+
+>>> with otn.Node(there) as one, otn.Node(back) as other:
+...     for turn in range(1, 9):
+...         leaves = one.out.lines[0]                       # what leaves in this turn was there before it
+...         _ = one.turn(clients={0: [b"hello"] if turn == 1 else []})
+...         came = other.turn(lines={0: leaves}).clients
+...         if came.get(4):
+...             print(turn, came[4])
+5 [b'hello']
+
 **The library** is looked for where the environment's OTN_LIBRARY says. Else it is libotn.so beside this file, where
 `library/build python` makes it and where a wheel has it. Else it is the system's libotn.so.1, of the package libotn1. A
 call keeps nothing for the next one, and lets other threads run; so calls of several threads run side by side. Python
@@ -72,16 +85,20 @@ from typing import Dict, List, Mapping, Optional, Sequence, Tuple, Union
 import otn_lines as lines
 from otn_damage import Damaged, damage, undo
 from otn_events import Events, events
+from otn_live import Fibre, Out, PlanRefused, Refused, Waits
+from otn_nodes import Node
 from otn_packets import Counts, count, test_packets
 from otn_views import View, view
 
 __all__ = [
     "CLIENTS", "FRAME", "LINES", "MULTIFRAME", "RULES", "VERSION", "ClientIn", "ClientOut", "Counts", "Damaged",
-    "Events", "LineIn", "LineOut", "Records", "Result", "Status", "View", "call", "check", "count", "damage", "events",
-    "lines", "packets", "protect", "pull", "run", "slot", "test_packets", "text", "trial", "undo", "version", "view",
+    "Events", "Fibre", "LineIn", "LineOut", "Node", "Out", "PlanRefused", "Records", "Refused", "Result", "Status",
+    "View", "Waits", "call", "check", "count", "damage", "events", "lines", "packets", "protect", "pull", "run", "slot",
+    "test_packets", "text", "trial", "undo", "version", "view",
 ]
 
-VERSION = 1  #: the version of the library that this file is for (OTN_VERSION of include/otn.h)
+VERSION = 2  #: the version of the library that this file is for (OTN_VERSION of include/otn.h)
+_ABI = 1  # the number in the name of the shared library (OTN_ABI of include/otn.h)
 LINES = 4  #: how many lines go in, and how many go out: 0 to 3
 CLIENTS = 16  #: how many clients there are: 0 to 15
 FRAME = 16_320  #: the bytes of a frame of a line
@@ -318,7 +335,7 @@ class _Answer(ctypes.Structure):
 def _library() -> ctypes.CDLL:
     beside = pathlib.Path(__file__).with_name("libotn.so")
     named = os.environ.get("OTN_LIBRARY") or (str(beside) if beside.exists() else "")
-    path = os.path.abspath(named) if named else f"libotn.so.{VERSION}"
+    path = os.path.abspath(named) if named else f"libotn.so.{_ABI}"
     try:
         library = ctypes.CDLL(path)
     except OSError as why:

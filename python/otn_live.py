@@ -37,13 +37,17 @@ tested by `checks/live`.
 """
 from __future__ import annotations
 
+import io
 import os
 import struct
 import subprocess
+from collections import deque
 from dataclasses import dataclass, field
-from typing import Dict, List, Mapping, Optional, Sequence, Union
+from typing import Callable, Deque, Dict, List, Mapping, Optional, Sequence, Union
 
-__all__ = ["CLIENTS", "FRAME", "LINES", "MULTIFRAME", "Node", "Out", "PlanRefused", "Refused", "Waits", "input_name"]
+__all__ = [
+    "CLIENTS", "FRAME", "LINES", "MULTIFRAME", "Fibre", "Node", "Out", "PlanRefused", "Refused", "Waits", "input_name",
+]
 
 LINES = 4  #: how many lines go in, and how many go out: 0 to 3
 CLIENTS = 16  #: how many clients there are: 0 to 15
@@ -104,7 +108,7 @@ class Node:
     def __init__(self, plan: Union[str, bytes], program: Optional[str] = None) -> None:
         path = program or os.environ.get("OTN_LIVE") or "otn_live"
         self._run = subprocess.Popen([path], stdin=subprocess.PIPE, stdout=subprocess.PIPE, bufsize=0)
-        assert self._run.stdin and self._run.stdout
+        assert isinstance(self._run.stdin, io.FileIO) and isinstance(self._run.stdout, io.FileIO)
         self._to, self._from = self._run.stdin, self._run.stdout
         for pipe in (self._to, self._from):
             _widen(pipe.fileno())
@@ -190,7 +194,29 @@ class Node:
         return out
 
     def _length(self) -> int:
-        return struct.unpack("<I", self._receive(4))[0]
+        return int(struct.unpack("<I", self._receive(4))[0])
+
+
+class Fibre:
+    """A fibre to a line input. What goes in comes out `delay` turns later, as `damage` makes it; what comes out before
+    is dark, frames of bytes 255: 8 a turn, and 32 of an OTU3.
+
+    >>> import otn_live
+    >>> fibre = otn_live.Fibre(delay=1, damage=lambda frames: frames[::-1])
+    >>> fibre.carry(b"first" * 26112) == b"\xff" * otn_live.MULTIFRAME
+    True
+    >>> fibre.carry(b"")[:5]
+    b'tsrif'
+    """
+
+    def __init__(self, delay: int = 0, damage: Callable[[bytes], bytes] = bytes, frames: int = 8) -> None:
+        self._damage = damage
+        self._way: Deque[bytes] = deque([b"\xff" * (frames * FRAME)] * delay)
+
+    def carry(self, frames: bytes) -> bytes:
+        """What comes out in a turn in which these frames go in."""
+        self._way.append(frames)
+        return self._damage(self._way.popleft())
 
 
 def input_name(number: int) -> str:

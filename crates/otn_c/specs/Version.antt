@@ -3,4 +3,4 @@ use Rattle.std.specs.Prelude.{ℕ}
 
 -- the version of how it is called and what it answers
 abbrev pub library_version : ℕ
-library_version = 1
+library_version = 2

@@ -3,6 +3,7 @@
 //! - `call`: a call, from the bytes that it is handed to those that it hands out.
 //! - `answer`: what it tells beside the bytes.
 //! - `answered`: its words, answered over places in memory.
+//! - `node_calls`: the calls of a node that is driven turn by turn.
 //! - `places`, `outputs`: the places of its inputs and outputs, and what the outputs got.
 //! - `awaited`: what is known of the outputs before a run.
 //! - `blocks`: parts that lie one behind the other in one slice.
@@ -23,6 +24,7 @@ mod blocks;
 mod call;
 mod growing_sink;
 mod laws;
+mod node_calls;
 mod outputs;
 mod places;
 mod slice_source;
@@ -36,6 +38,9 @@ use call::answer_call;
 pub use growing_sink::GrowingSink;
 pub use laws::headline_of_bytes;
 use line_tool::{check_of_text, pull_of_given, run_of_text, slot_of_given};
+pub use node_calls::{
+    otn_close, otn_end, otn_hand_in, otn_lack, otn_left, otn_open, otn_report, otn_turn,
+};
 pub use slice_source::SliceSource;
 use std::alloc::Global;
 pub use version::otn_version;

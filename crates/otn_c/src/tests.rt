@@ -267,6 +267,6 @@ fn ports_in_memory_work(rt: HostRuntime) -> Result<(), Fail> {
     assert_eq!(rt; source.read(&mut into).ok(), Some(2));
     assert_eq!(rt; text_of(&into), "dec");
     assert_eq!(rt; source.read(&mut into).ok(), Some(0));
-    assert_eq!(rt; otn_version(), 1);
+    assert_eq!(rt; otn_version(), 2);
     Ok(())
 }
