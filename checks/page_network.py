@@ -62,6 +62,12 @@ def tables(tell, folder, plans, fibres, page):
     for r in rows:
         got.setdefault((r['from node'], r['line out'], r['to node'], r['line in']), {})[int(r['slot'])] = r['customer']
     tell(f'{len(want)} fibres as CSV', got == want)
+    done = subprocess.run([SEE / 'otn-network', *plans, *fibres, '--csv'], cwd=folder, capture_output=True, text=True)
+    got = {}
+    for r in csv.DictReader(io.StringIO(done.stdout)):
+        got.setdefault((r['from node'], r['line out'], r['to node'], r['line in']), {})[int(r['slot'])] = r['customer']
+    tell(f'{len(want)} fibres as CSV with no browser', got == want and not done.stderr)
+    tell('whose the facts are', says(page, '#sources', 'otn_network, proved: ways, turns, slots'))
     cells = page.run('''[...document.querySelectorAll("#fibres [data-place]")]
         .map(b => [...b.dataset.place.split('.').map(Number), b.textContent])''')
     rows = list(want.values())

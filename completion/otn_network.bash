@@ -2,7 +2,9 @@
 # bash-completion/completions below ~/.local/share is found by itself.
 _otn_network() {
     local word=${COMP_WORDS[COMP_CWORD]}
-    [ "$COMP_CWORD" = 1 ] || return
-    mapfile -t COMPREPLY < <(compgen -f -W "--help" -- "$word")
+    case $COMP_CWORD in
+    1) mapfile -t COMPREPLY < <(compgen -f -W "--help --json" -- "$word") ;;
+    2) [ "${COMP_WORDS[1]}" = --json ] && mapfile -t COMPREPLY < <(compgen -f -- "$word") ;;
+    esac
 }
 complete -F _otn_network otn_network

@@ -39,7 +39,7 @@ def fibre_of(net, fibre):
     slots = net.slots(a, 'out', m)
     rows = [slot_row(net, fibre, k) for k in range(1, slots + 1)]
     return {'a': a, 'out': m, 'b': b, 'in': n, 'slots': slots, 'rows': rows,
-            'scrambled': m in net.plans[a].get('scrambled-out', []),
+            'scrambled': net.is_scrambled(a, m),
             'trouble': net.fibre_trouble(a, m, b, n) + clashes(net, fibre, rows)}
 
 
@@ -60,7 +60,8 @@ def about(net, fixed):
         'sites': [{'name': s, 'x': round(place[s][0], 4), 'y': round(place[s][1], 4),
                    'nodes': [n for n in net.plans if site_of(n) == s]} for s in sites],
         'fibres': [fibre_of(net, f) for f in net.fibres],
-        'customers': [customer_of(net, chain) for chain in net.chains]}
+        'customers': [customer_of(net, chain) for chain in net.chains],
+        'sources': net.sources}
 
 
 def network_page(net, fixed):

@@ -1,7 +1,8 @@
 """Some nodes, their plans, and the fibres between them: which connections meet, and the chain of each customer.
 
 A fibre is an output line of one node that is an input line of another: (node, line, node, line). A connection goes on
-where the other node takes the same port and slots from the fibre while it lasts. Nothing of this is proved.
+where the other node takes the same port and slots from the fibre while it lasts. Nothing of this is proved: told.py has
+what otn_network tells of a network in its place.
 """
 import os
 import re
@@ -40,6 +41,8 @@ class Network:
 
     def __init__(self, plans, fibres, folders=None, path=''):
         self.plans, self.fibres, self.folders, self.path = plans, fibres, folders or {}, path
+        self.files, self.numbers = {}, {}              # of words: the file of each plan; of a chain: the numbers of its ways
+        self.sources = ('plans, read by this script, which is not proved',)
         self.all = [Connection(n, c, plan['turns']) for n, plan in plans.items() for c in plan.get('connection', [])]
         self.join()
         self.chains = []
@@ -86,6 +89,10 @@ class Network:
     def slots(self, node, side, line):
         """How many slots a line has: 32 where the plan says OTU3; side is in or out."""
         return 32 if line in self.plans[node].get(f'otu3-{side}', []) else 8
+
+    def is_scrambled(self, node, line):
+        """Whether an output line is scrambled."""
+        return line in self.plans[node].get('scrambled-out', [])
 
     def fibre_trouble(self, a, m, b, n):
         """What the two ends of a fibre do not agree on."""
@@ -145,16 +152,18 @@ def read_folder(path):
 
 def read_words(plans, fibres):
     """A network from words: NAME=plan.toml, or a path whose folder is the name; A:0=B:0 for a fibre."""
-    out, folders = {}, {}
+    out, folders, files = {}, {}, {}
     for word in plans:
         name, _, path = word.rpartition('=')
         folder = os.path.dirname(os.path.abspath(path))
-        folders[name or os.path.basename(folder)] = folder
-        out[name or os.path.basename(folder)] = read_plan(path)
+        name = name or os.path.basename(folder)
+        folders[name], files[name], out[name] = folder, os.path.abspath(path), read_plan(path)
     ends = []
     for word in fibres:
         found = re.fullmatch(r'(.+):(\d)=(.+):(\d)', word)
         if not found or found[1] not in out or found[3] not in out:
             sys.exit(f'{word}: no fibre between two of the nodes, as A:0=B:0')
         ends.append((found[1], int(found[2]), found[3], int(found[4])))
-    return Network(out, ends, folders)
+    net = Network(out, ends, folders)
+    net.files = files
+    return net

@@ -29,7 +29,8 @@ function drawHead() {
     .replaceChildren(...bad.slice(0, 50).map(text => el('li', {}, text)),
       ...(bad.length > 50 ? [el('li', {}, `${bad.length - 50} more`)] : []));
   $('sources').replaceChildren(
-    el('p', {}, 'The page shows what plans say. It is not proved, and no line was looked at.'),
+    ...net.sources.map(source => el('p', {}, source)),
+    el('p', {}, 'No line was looked at.'),
     el('p', {}, 'otn check refuses a plan in which two connections have a slot of a line in one turn (rule 11). ',
       'That no customer changes another on a line is proved of each node: docs/PROMISES.md.'));
 }

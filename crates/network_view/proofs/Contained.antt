@@ -1,6 +1,7 @@
 -- What lists that are put together contain.
-use Rattle.std.proofs.Common.{◌≡◌, ◌<◌, ◌≤◌, ◌+◌, ◌∙◌, ◌⊎◌, inl, inr, ◌==◌, ◌≢◌, ◌||◌, ℕ, zero, suc, Bool, true, false, List, [], ◌∷◌, ◌++◌, length, refl, sym, ap, subst, arith}
-use Rattle.std.specs.Prelude.{filter, if◌then◌else◌, map}
+use Rattle.std.proofs.Common.{◌≡◌, ◌<◌, ◌≤◌, ◌+◌, ◌∙◌, ◌⊎◌, inl, inr, ◌==◌, ◌≢◌, ◌||◌, ℕ, zero}
+use Rattle.std.proofs.Common.{suc, Bool, true, false, List, [], ◌∷◌, ◌++◌, refl, sym, ap, subst, arith}
+use Rattle.std.specs.Prelude.{filter, if◌then◌else◌}
 use Rattle.std.specs.List.{Contains, flat_map, list_any, range_with_len}
 use Rattle.std.proofs.lemmas.Bool.{eqb-true, eqb-false}
 use Rattle.std.proofs.lemmas.List.Elements.{Contains-append_left, Contains-append_right, Contains-append_cases}
@@ -47,7 +48,8 @@ pub flat_has : {A B : Type 0} (f : A → List B) (xs : List A) (y : B) → Conta
 flat_has f [] y has = absurd (in_none y has)
 flat_has {A} f (x ∷ xs) y has = go (Contains-append_cases (f x) (flat_map f xs) y has) (flat_has f xs y)
   where
-    go : Contains (f x) y ⊎ Contains (flat_map f xs) y → (Contains (flat_map f xs) y → (z : A) × Contains xs z × Contains (f z) y) → (z : A) × Contains (x ∷ xs) z × Contains (f z) y
+    go : Contains (f x) y ⊎ Contains (flat_map f xs) y → (Contains (flat_map f xs) y → (z : A) × Contains xs z × Contains (f z) y)
+        → (z : A) × Contains (x ∷ xs) z × Contains (f z) y
     go (inl here) more = (x, first_in x xs, here)
     go (inr later) more =
         let rest = more later in
@@ -90,7 +92,8 @@ filter_has test (x ∷ xs) k has = go (test x) refl (filter_has test xs k)
     later : Contains xs k × (test k ≡ true) → Contains (x ∷ xs) k × (test k ≡ true)
     later p = (later_in x xs k p.0, p.1)
 
-    here : test x ≡ true → (x ≡ k) ⊎ Contains (filter test xs) k → (Contains (filter test xs) k → Contains xs k × (test k ≡ true)) → Contains (x ∷ xs) k × (test k ≡ true)
+    here : test x ≡ true → (x ≡ k) ⊎ Contains (filter test xs) k → (Contains (filter test xs) k → Contains xs k × (test k ≡ true))
+        → Contains (x ∷ xs) k × (test k ≡ true)
     here t (inl is) rest = (subst (Contains (x ∷ xs)) is (first_in x xs), sym (ap test is) ∙ t)
     here t (inr more) rest = later (rest more)
 
@@ -103,7 +106,9 @@ has_filter test [] k has holds = absurd (in_none k has)
 has_filter test (x ∷ xs) k has holds = go (test x) refl (cases_in x xs k has) (λ later. has_filter test xs k later holds)
   where
     go : (b : Bool) → test x ≡ b → (x ≡ k) ⊎ Contains xs k → (Contains xs k → Contains (filter test xs) k) → Contains (filter test (x ∷ xs)) k
-    go true t (inl is) rest = subst (λ b. Contains (if b then x ∷ filter test xs else filter test xs) k) (sym t) (subst (Contains (x ∷ filter test xs)) is (first_in x (filter test xs)))
+    go true t (inl is) rest =
+        subst (λ b. Contains (if b then x ∷ filter test xs else filter test xs) k) (sym t)
+        (subst (Contains (x ∷ filter test xs)) is (first_in x (filter test xs)))
     go true t (inr later) rest = subst (λ b. Contains (if b then x ∷ filter test xs else filter test xs) k) (sym t) (later_in x (filter test xs) k (rest later))
     go false t (inl is) rest = absurd (let no_test : false ≡ true = sym t ∙ ap test is ∙ holds in cc)
     go false t (inr later) rest = subst (λ b. Contains (if b then x ∷ filter test xs else filter test xs) k) (sym t) (rest later)

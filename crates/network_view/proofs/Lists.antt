@@ -1,7 +1,7 @@
 -- The steps of loops that go through a list by an index.
-use Rattle.std.proofs.Common.{◌≡◌, ◌<◌, ◌≤◌, ◌+◌, ◌∙◌, ℕ, zero, suc, Bool, true, false, List, [], ◌∷◌, ◌++◌}
-use Rattle.std.proofs.Common.{Option, None, Some, length, take, drop, get_or, slice_get, refl, sym, ap, arith, append-nil, append_assoc, length-append}
-use Rattle.std.specs.Prelude.{filter, if◌then◌else◌, map, not}
+use Rattle.std.proofs.Common.{◌≡◌, ◌<◌, ◌≤◌, ◌+◌, ◌∙◌, ℕ, zero, suc, Bool, List, [], ◌∷◌, ◌++◌}
+use Rattle.std.proofs.Common.{Some, length, take, get_or, slice_get, refl, sym, ap, arith, append-nil, append_assoc, length-append}
+use Rattle.std.specs.Prelude.{filter, if◌then◌else◌}
 use Rattle.std.specs.List.{flat_map, range_with_len}
 use Rattle.std.proofs.Math.Seq.{take-length}
 use Rattle.std.proofs.lemmas.Grind.{flat_map-append}
@@ -24,7 +24,8 @@ take_on [] i x known = absurd (let less = slice_get_within [] i x known in omega
 take_on (y ∷ xs) zero x known = ap (λ z. z ∷ []) (same_Some y x known)
 take_on (y ∷ xs) (suc i) x known = ap (λ n. take n (y ∷ xs)) (let e : suc i + 1 ≡ suc (i + 1) = omega arith in e) ∙ ap (λ t. y ∷ t) (take_on xs i x known)
 
-take_count : {A : Type 0} (xs : List A) (i : ℕ) (x : A) → slice_get xs i ≡ Some x → length (take i xs) ≡ i
+-- the front of i items, where there is one more
+pub take_count : {A : Type 0} (xs : List A) (i : ℕ) (x : A) → slice_get xs i ≡ Some x → length (take i xs) ≡ i
 take_count [] i x known = absurd (let less = slice_get_within [] i x known in omega arith)
 take_count (y ∷ xs) zero x known = refl
 take_count (y ∷ xs) (suc i) x known = ap suc (take_count xs i x known)
@@ -45,7 +46,8 @@ numbered_on : {A : Type 0} (f : ℕ → A → List ℕ) (k : ℕ) (xs ys : List 
 unfolding numbered
 numbered_on f k [] ys = ap (λ n. numbered f n ys) (let e : k ≡ k + 0 = omega arith in e)
 numbered_on f k (x ∷ xs) ys =
-    ap (λ t. f k x ++ t) (numbered_on f (k + 1) xs ys ∙ ap (λ n. numbered f (k + 1) xs ++ numbered f n ys) (let e : k + 1 + length xs ≡ k + length (x ∷ xs) = omega arith in e))
+    ap (λ t. f k x ++ t) (numbered_on f (k + 1) xs ys ∙ ap (λ n. numbered f (k + 1) xs ++ numbered f n ys)
+    (let e : k + 1 + length xs ≡ k + length (x ∷ xs) = omega arith in e))
     ∙ sym (append_assoc (f k x) (numbered f (k + 1) xs) (numbered f (k + length (x ∷ xs)) ys))
 
 one_number : {A : Type 0} (f : ℕ → A → List ℕ) (k : ℕ) (x : A) → numbered f k (x ∷ []) ≡ f k x
@@ -64,7 +66,8 @@ numbered_more f xs i x text line more known so is all =
     ∙ sym (numbered_on f 1 (take i xs) (x ∷ [])) ∙ ap (numbered f 1) (sym (take_on xs i x known))
 
 -- the same, of lists one after another
-pub flat_numbered : {A B : Type 0} (f : ℕ → B → List ℕ) (w : A → List B) (xs : List A) (i : ℕ) (x : A) (count : ℕ) (text more : List ℕ) → slice_get xs i ≡ Some x
+pub flat_numbered : {A B : Type 0} (f : ℕ → B → List ℕ) (w : A → List B) (xs : List A) (i : ℕ) (x : A) (count : ℕ) (text more : List ℕ)
+    → slice_get xs i ≡ Some x
     → count ≡ length (flat_map w (take i xs)) → text ≡ numbered f 1 (flat_map w (take i xs)) → more ≡ text ++ numbered f (count + 1) (w x)
     → more ≡ numbered f 1 (flat_map w (take (i + 1) xs))
 flat_numbered f w xs i x count text more known counted so all =
@@ -109,12 +112,14 @@ legs_more node xs i x before legs more known so is =
     is ∙ ap (λ t. t ++ (record { node = node; x = x }) ∷ []) so ∙ append_assoc before (legs_at node (take i xs)) (legs_at node (x ∷ []))
     ∙ ap (λ t. before ++ t) (sym (map-append (λ y. record { node = node; x = y }) (take i xs) (x ∷ [])) ∙ ap (legs_at node) (sym (take_on xs i x known)))
 
-legs_on : (node : ℕ) (plans : List Plan) (plan : Plan) → legs_from node (plans ++ plan ∷ []) ≡ legs_from node plans ++ legs_at (node + length plans) plan.connections
+legs_on : (node : ℕ) (plans : List Plan) (plan : Plan)
+    → legs_from node (plans ++ plan ∷ []) ≡ legs_from node plans ++ legs_at (node + length plans) plan.connections
 unfolding legs_from
 legs_on node [] plan = append-nil (legs_at node plan.connections) ∙ ap (λ n. legs_at n plan.connections) (let e : node ≡ node + 0 = omega arith in e)
 legs_on node (p ∷ plans) plan =
     ap (λ t. legs_at node p.connections ++ t)
-    (legs_on (node + 1) plans plan ∙ ap (λ n. legs_from (node + 1) plans ++ legs_at n plan.connections) (let e : node + 1 + length plans ≡ node + length (p ∷ plans) = omega arith in e))
+    (legs_on (node + 1) plans plan ∙ ap (λ n. legs_from (node + 1) plans ++ legs_at n plan.connections)
+    (let e : node + 1 + length plans ≡ node + length (p ∷ plans) = omega arith in e))
     ∙ sym (append_assoc (legs_at node p.connections) (legs_from (node + 1) plans) (legs_at (node + length (p ∷ plans)) plan.connections))
 
 pub legs_none : (node : ℕ) → legs_from node [] ≡ []

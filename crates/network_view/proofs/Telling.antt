@@ -1,8 +1,8 @@
 -- What is told of a network.
-use Rattle.std.proofs.Common.{◌≡◌, ◌<◌, ◌≤◌, ◌+◌, ◌*◌, ◌-◌, ◌∙◌, ◌==◌, ◌&&◌, ◌⊎◌, inl, inr, ℕ, zero, suc, Bool}
+use Rattle.std.proofs.Common.{◌≡◌, ◌+◌, ◌-◌, ◌∙◌, ◌==◌, ◌⊎◌, inl, inr, ℕ, zero, suc, Bool}
 use Rattle.std.proofs.Common.{true, false, List, [], ◌∷◌, ◌++◌, Option, None, Some, length, codes, slice_get, refl, sym, ap, subst, arith}
-use Rattle.std.specs.Prelude.{filter, if◌then◌else◌, map, not}
-use Rattle.std.specs.List.{Contains, flat_map, list_all, list_any, range_with_len}
+use Rattle.std.specs.Prelude.{if◌then◌else◌, is_none, not}
+use Rattle.std.specs.List.{Contains, flat_map, range_with_len}
 use Rattle.std.proofs.lemmas.Bool.{and_parts, and_from, eqb-true, eq-eqb}
 use Rattle.otn_base.specs.LineSlots.{LineSlots}
 use Rattle.plan_file.specs.declared.connection.Connection.{Connection}
@@ -12,20 +12,22 @@ use Rattle.plan_file.specs.declared.plan.Plan.{Plan}
 use Rattle.std.proofs.lemmas.List.Elements.{Contains-append_left, Contains-append_right, Contains-append_cases}
 use Rattle.std.proofs.lemmas.Option.{same_Some}
 use Rattle.network_laws.specs.Delivery.{IsInStep}
-use Rattle.network_laws.specs.Networks.{FibreEnds, Network, IsNetwork, NetworkRun}
+use Rattle.network_laws.specs.Networks.{FibreEnds, Network, NetworkRun}
 use Rattle.network_laws.specs.Routes.{Leg, IsLeg, IsJoined, IsRoute, hop_of, hops_of, last_leg}
 use Rattle.network_laws.proofs.EndToEnd.{networks_deliver}
 use Rattle.network_ways.specs.Tracing.{IsFirst, Way, goes_on, trace}
-use Rattle.network_ways.proofs.Tracing.{Going, going, goes_so, finds_each, finds_ways}
+use Rattle.network_ways.proofs.Tracing.{going, goes_so, finds_each, finds_ways}
 use Rattle.network_view.specs.Entries.{Named, legs_at, legs_from, legs_of, name_of}
-use Rattle.network_view.specs.Laws.{IsFree, IsLast, IsWell, TellsEachWay, TellsFreeSlots, TellsTheTurns, TellsWays, TellsWhatMeets}
-use Rattle.network_view.specs.NetworkText.{is_met, is_met_by, round_line, trouble_line, troubles_in, troubles_text, unmet_line, untaken_line}
+use Rattle.network_view.specs.Laws.{IsFree, IsLast, IsWell, TellsEachWay, TellsFreeSlots, TellsRounds, TellsTheTurns, TellsWays, TellsWhatMeets}
+use Rattle.network_view.specs.NetworkText.{is_met, is_met_by, round_line, trouble_line, troubles_text, unmet_line, untaken_line}
 use Rattle.network_view.specs.declared.lines.Trouble.TheVariants.{Unmet, Untaken, Round}
 use Rattle.network_view.specs.Slots.{free_slots, has_slot_of, is_end_on, is_put_on, is_used, line_slots}
 use Rattle.network_view.specs.Troubles.{any_in, is_round, is_taken, is_unmet, is_untaken, takes_by, why}
-use Rattle.network_view.specs.Ways.{as_list, is_in_step, most_steps, way_at, ways_of}
+use Rattle.network_view.specs.Ways.{as_list, is_in_step, most_steps, way_at}
 use Rattle.network_view.specs.Words.{why_word}
-use Rattle.network_view.proofs.Contained.{in_none, first_in, later_in, cases_in, any_has, has_any, flat_has, has_flat, nil_parts, flat_nil, nil_flat, filter_has, has_filter, range_has, has_range}
+use Rattle.network_view.proofs.Contained.{in_none, first_in, later_in, cases_in, any_has, has_any, flat_has, has_flat}
+use Rattle.network_view.proofs.Contained.{nil_parts, flat_nil, nil_flat, filter_has, has_filter, range_has, has_range}
+use Rattle.network_view.proofs.Rounds.{way_fits}
 
 -- ---- all entries
 
@@ -44,8 +46,10 @@ has_map : (node : ℕ) (xs : List Connection) (x : Connection) → Contains xs x
 has_map node [] x has = absurd (in_none x has)
 has_map node (y ∷ xs) x has = go (cases_in y xs x has) (has_map node xs x)
   where
-    go : (y ≡ x) ⊎ Contains xs x → (Contains xs x → Contains (legs_at node xs) (record { node = node; x = x })) → Contains (legs_at node (y ∷ xs)) (record { node = node; x = x })
-    go (inl is) rest = subst (λ z. Contains (legs_at node (y ∷ xs)) (record { node = node; x = z })) is (first_in (record { node = node; x = y }) (legs_at node xs))
+    go : (y ≡ x) ⊎ Contains xs x → (Contains xs x → Contains (legs_at node xs) (record { node = node; x = x }))
+        → Contains (legs_at node (y ∷ xs)) (record { node = node; x = x })
+    go (inl is) rest =
+        subst (λ z. Contains (legs_at node (y ∷ xs)) (record { node = node; x = z })) is (first_in (record { node = node; x = y }) (legs_at node xs))
     go (inr later) rest = later_in (record { node = node; x = y }) (legs_at node xs) (record { node = node; x = x }) (rest later)
 
 -- an entry of one of these plans, of which the first is that of this node
@@ -59,9 +63,11 @@ record IsOf (first : ℕ) (plans : List Plan) (leg : Leg) : Type 0 where
 is_of : (first : ℕ) (plans : List Plan) (leg : Leg) → Contains (legs_from first plans) leg → IsOf first plans leg
 unfolding legs_from
 is_of first [] leg has = absurd (in_none leg has)
-is_of first (plan ∷ plans) leg has = go (Contains-append_cases (legs_at first plan.connections) (legs_from (first + 1) plans) leg has) (is_of (first + 1) plans leg)
+is_of first (plan ∷ plans) leg has =
+    go (Contains-append_cases (legs_at first plan.connections) (legs_from (first + 1) plans) leg has) (is_of (first + 1) plans leg)
   where
-    go : Contains (legs_at first plan.connections) leg ⊎ Contains (legs_from (first + 1) plans) leg → (Contains (legs_from (first + 1) plans) leg → IsOf (first + 1) plans leg)
+    go : Contains (legs_at first plan.connections) leg ⊎ Contains (legs_from (first + 1) plans) leg
+        → (Contains (legs_from (first + 1) plans) leg → IsOf (first + 1) plans leg)
         → IsOf first (plan ∷ plans) leg
     go (inl here) rest =
         let m = map_has first plan.connections leg here in
@@ -96,7 +102,8 @@ leg_is network leg is =
 
 -- ---- whether an entry goes on
 
-any_found : (at : Option Plan) (test : Connection → Bool) → any_in at test ≡ true → (plan : Plan) × (at ≡ Some plan) × ((y : Connection) × Contains plan.connections y × (test y ≡ true))
+any_found : (at : Option Plan) (test : Connection → Bool) → any_in at test ≡ true
+    → (plan : Plan) × (at ≡ Some plan) × ((y : Connection) × Contains plan.connections y × (test y ≡ true))
 any_found None test e = absurd (cc)
 any_found (Some plan) test e = (plan, refl, any_has test plan.connections e)
 
@@ -127,11 +134,13 @@ is_taken_so network here next is joined =
     let test : Connection → Bool = λ y. goes_on here.x y joined.b joined.c in
     has_any (takes_by network here) network.fibres f joined.fibre
     (and_from (here.node == here.node) (any_in (slice_get network.plans next.node) test) (eq-eqb here.node here.node refl)
-    (ap (λ at. any_in at test) is.known ∙ has_any test is.plan.connections next.x is.has (goes_so here.x next.x joined.b joined.c joined.port joined.slots joined.goes)))
+    (ap (λ at. any_in at test) is.known ∙ has_any test is.plan.connections next.x is.has
+    (goes_so here.x next.x joined.b joined.c joined.port joined.slots joined.goes)))
 
 -- ---- ways
 
-way_of_leg : (network : Network) (most : ℕ) (leg : Leg) (way : Way) → Contains (way_at network most leg) way → (is_taken network leg ≡ false) × (trace network most leg [] ≡ Some way)
+way_of_leg : (network : Network) (most : ℕ) (leg : Leg) (way : Way) → Contains (way_at network most leg) way
+    → (is_taken network leg ≡ false) × (trace network most leg [] ≡ Some way)
 unfolding way_at
 way_of_leg network most leg way has = go (is_taken network leg) refl
   where
@@ -173,13 +182,38 @@ not_taken network leg last = go (is_taken network leg) refl
 
 pub tells_each_way : TellsEachWay
 unfolding way_at
-tells_each_way network first rest net route begins ends few =
+tells_each_way network first rest net route begins ends =
     let way : Way = record { first = first; rest = rest } in
     let leg = last_leg first rest in
     let most = most_steps network in
+    let few = way_fits network first rest (legs_of network) net route begins (leg_is network) in
     let found : trace network most leg [] ≡ Some way = finds_each network most first rest net route begins few in
-    let at : way_at network most leg ≡ way ∷ [] = ap (λ b. if b then [] else as_list (trace network most leg [])) (not_taken network leg ends) ∙ ap as_list found in
-    has_flat (way_at network most) (legs_of network) leg way (leg_is network leg (last_is_leg network first rest route)) (subst (λ xs. Contains xs way) (sym at) (first_in way []))
+    let at : way_at network most leg ≡ way ∷ [] =
+    ap (λ b. if b then [] else as_list (trace network most leg [])) (not_taken network leg ends) ∙ ap as_list found in
+    has_flat (way_at network most) (legs_of network) leg way (leg_is network leg (last_is_leg network first rest route))
+    (subst (λ xs. Contains xs way) (sym at) (first_in way []))
+
+pub tells_rounds : TellsRounds
+tells_rounds network leg net is = (none_leads, goes_round)
+  where
+    none_leads : is_round network (most_steps network) leg ≡ true → (first : Leg) (rest : List Leg) → IsRoute network first rest → IsFirst network first
+        → last_leg first rest ≡ leg → ⊥
+    none_leads e first rest route begins ends =
+        let few = way_fits network first rest (legs_of network) net route begins (leg_is network) in
+        let most = most_steps network in
+        let found : trace network most (last_leg first rest) [] ≡ Some (record { first = first; rest = rest }) =
+        finds_each network most first rest net route begins few in
+        let at : trace network most leg [] ≡ Some (record { first = first; rest = rest }) = sym (ap (λ l. trace network most l []) ends) ∙ found in
+        let both : false ≡ true = sym (ap is_none at) ∙ e in
+        absurd (cc)
+
+    goes_round : ((first : Leg) (rest : List Leg) → IsRoute network first rest → IsFirst network first → last_leg first rest ≡ leg → ⊥)
+        → is_round network (most_steps network) leg ≡ true
+    goes_round none = go (trace network (most_steps network) leg []) refl
+      where
+        go : (o : Option Way) → trace network (most_steps network) leg [] ≡ o → is_none o ≡ true
+        go None t = refl
+        go (Some way) t = absurd (let f = finds_ways network (most_steps network) leg way is t in none way.first way.rest f.0 f.2 f.1)
 
 -- ---- turns
 
@@ -193,7 +227,8 @@ in_step network run first here (next ∷ rest) same e =
 
 pub tells_the_turns : TellsTheTurns
 tells_the_turns network run way m n input written route brought all steps many from to gave got lived offered =
-    networks_deliver network run way.first way.rest m n input written route brought all (in_step network run way.first way.first way.rest refl steps) many from to gave got lived offered
+    networks_deliver network run way.first way.rest m n input written route brought all
+    (in_step network run way.first way.first way.rest refl steps) many from to gave got lived offered
 
 -- ---- what meets
 
@@ -207,7 +242,8 @@ no_text b text e = ap (λ c. if c then text else []) e
 unmet_none : (named : Named) (leg : Leg) → unmet_line named leg ≡ [] → is_unmet named.network leg ≡ false
 unfolding unmet_line
 unmet_none named leg e =
-    some_text (is_unmet named.network leg) 117 (codes "nmet " ++ name_of named leg.node ++ codes " " ++ leg.x.name ++ codes " " ++ why_word (why named.network leg) ++ codes "\n") e
+    some_text (is_unmet named.network leg) 117
+    (codes "nmet " ++ name_of named leg.node ++ codes " " ++ leg.x.name ++ codes " " ++ why_word (why named.network leg) ++ codes "\n") e
 
 untaken_none : (named : Named) (leg : Leg) → untaken_line named leg ≡ [] → is_untaken named.network leg ≡ false
 unfolding untaken_line
@@ -215,12 +251,14 @@ untaken_none named leg e = some_text (is_untaken named.network leg) 117 (codes "
 
 round_none : (named : Named) (most : ℕ) (leg : Leg) → round_line named most leg ≡ [] → is_round named.network most leg ≡ false
 unfolding round_line
-round_none named most leg e = some_text (is_round named.network most leg) 114 (codes "ound " ++ name_of named leg.node ++ codes " " ++ leg.x.name ++ codes "\n") e
+round_none named most leg e =
+    some_text (is_round named.network most leg) 114 (codes "ound " ++ name_of named leg.node ++ codes " " ++ leg.x.name ++ codes "\n") e
 
 none_unmet : (named : Named) (leg : Leg) → is_unmet named.network leg ≡ false → unmet_line named leg ≡ []
 unfolding unmet_line
 none_unmet named leg e =
-    no_text (is_unmet named.network leg) (codes "unmet " ++ name_of named leg.node ++ codes " " ++ leg.x.name ++ codes " " ++ why_word (why named.network leg) ++ codes "\n") e
+    no_text (is_unmet named.network leg) (codes "unmet " ++ name_of named leg.node ++ codes " " ++ leg.x.name ++ codes " " ++ why_word
+    (why named.network leg) ++ codes "\n") e
 
 none_untaken : (named : Named) (leg : Leg) → is_untaken named.network leg ≡ false → untaken_line named leg ≡ []
 unfolding untaken_line
@@ -255,9 +293,12 @@ well_met named well =
     let legs = legs_of named.network in
     let most = length legs in
     let one = λ (leg : Leg) (has : Contains legs leg). well leg (is_leg named.network leg has) in
-    let unmet : flat_map (trouble_line named most Unmet) legs ≡ [] = nil_flat (trouble_line named most Unmet) legs (λ leg has. none_unmet named leg (one leg has).met) in
-    let untaken : flat_map (trouble_line named most Untaken) legs ≡ [] = nil_flat (trouble_line named most Untaken) legs (λ leg has. none_untaken named leg (one leg has).taken) in
-    let round : flat_map (trouble_line named most Round) legs ≡ [] = nil_flat (trouble_line named most Round) legs (λ leg has. none_round named most leg (one leg has).begun) in
+    let unmet : flat_map (trouble_line named most Unmet) legs ≡ [] =
+    nil_flat (trouble_line named most Unmet) legs (λ leg has. none_unmet named leg (one leg has).met) in
+    let untaken : flat_map (trouble_line named most Untaken) legs ≡ [] =
+    nil_flat (trouble_line named most Untaken) legs (λ leg has. none_untaken named leg (one leg has).taken) in
+    let round : flat_map (trouble_line named most Round) legs ≡ [] =
+    nil_flat (trouble_line named most Round) legs (λ leg has. none_round named most leg (one leg has).begun) in
     ap (λ t. is_met_by (t ++ (flat_map (trouble_line named most Untaken) legs ++ flat_map (trouble_line named most Round) legs))) unmet
     ∙ ap (λ t. is_met_by (t ++ flat_map (trouble_line named most Round) legs)) untaken ∙ ap is_met_by round
 

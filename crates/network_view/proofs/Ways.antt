@@ -1,5 +1,6 @@
 -- The steps of loops that look for the entry before one, and go back along a way.
-use Rattle.std.proofs.Common.{◌≡◌, ◌<◌, ◌≤◌, ◌+◌, ◌-◌, ◌∙◌, ℕ, zero, suc, Bool, true, false, List, [], ◌∷◌, ◌++◌, Option, None, Some, length, drop, get_or, slice_get, refl, sym, ap, arith, append-nil}
+use Rattle.std.proofs.Common.{◌≡◌, ◌<◌, ◌≤◌, ◌+◌, ◌-◌, ◌∙◌, ℕ, suc, Bool, true, false, List, [], ◌∷◌}
+use Rattle.std.proofs.Common.{◌++◌, Option, None, Some, length, drop, get_or, slice_get, refl, sym, ap, arith, append-nil}
 use Rattle.std.specs.Prelude.{if◌then◌else◌, option_map, reverse}
 use Rattle.std.proofs.lemmas.List.{at_drop_all, reverse-append}
 use Rattle.std.proofs.lemmas.Option.{same_Some}
@@ -39,10 +40,12 @@ pub before_go : (network : Network) (next : Leg) (fs : List FibreEnds) (i : ℕ)
 unfolding before_by
 before_go network next fs i f known none = step (before_by network next) fs i f known ∙ ap (λ o. or_else o (before_by network next (drop (i + 1) fs))) none
 
-pub before_stop : (network : Network) (next here : Leg) (fs : List FibreEnds) (i : ℕ) (f : FibreEnds) → slice_get fs i ≡ Some f → by_fibre network next f ≡ Some here
+pub before_stop : (network : Network) (next here : Leg) (fs : List FibreEnds) (i : ℕ) (f : FibreEnds) → slice_get fs i ≡ Some f
+    → by_fibre network next f ≡ Some here
     → before_by network next (drop i fs) ≡ Some here
 unfolding before_by
-before_stop network next here fs i f known some = step (before_by network next) fs i f known ∙ ap (λ o. or_else o (before_by network next (drop (i + 1) fs))) some
+before_stop network next here fs i f known some =
+    step (before_by network next) fs i f known ∙ ap (λ o. or_else o (before_by network next (drop (i + 1) fs))) some
 
 pub before_done : (network : Network) (next : Leg) (fs : List FibreEnds) (i : ℕ) → length fs ≤ i → before_by network next (drop i fs) ≡ None
 unfolding before_by
@@ -65,7 +68,8 @@ pub back_stop : (network : Network) (most k : ℕ) (leg : Leg) (back : List Leg)
 unfolding trace
 back_stop network most k leg back less none =
     ap (λ n. option_map entries_of (trace network n leg (reverse back))) (let e : most - k ≡ suc (most - (k + 1)) = omega arith in e)
-    ∙ ap (λ o. option_map entries_of (or_on o (Some (record { first = leg; rest = reverse back })) (λ there. trace network (most - (k + 1)) there (leg ∷ reverse back)))) none
+    ∙ ap (λ o. option_map entries_of (or_on o (Some (record { first = leg; rest = reverse back }))
+    (λ there. trace network (most - (k + 1)) there (leg ∷ reverse back)))) none
 
 pub back_done : (network : Network) (most k : ℕ) (leg : Leg) (legs : List Leg) → most ≤ k → trace network (most - k) leg legs ≡ None
 unfolding trace
@@ -86,7 +90,8 @@ pub last_at : (first : Leg) (rest : List Leg) (d : Leg) → 0 < length rest → 
 last_at first [] d some = absurd (omega arith)
 last_at first (x ∷ []) d some = refl
 last_at first (x ∷ y ∷ rest) d some =
-    ap (λ n. get_or (x ∷ y ∷ rest) n d) (let e : length (x ∷ y ∷ rest) - 1 ≡ suc (length (y ∷ rest) - 1) = omega arith in e) ∙ last_at x (y ∷ rest) d (omega arith)
+    ap (λ n. get_or (x ∷ y ∷ rest) n d) (let e : length (x ∷ y ∷ rest) - 1 ≡ suc (length (y ∷ rest) - 1) = omega arith in e)
+    ∙ last_at x (y ∷ rest) d (omega arith)
 
 -- ---- the way that ends at an entry
 
@@ -94,11 +99,13 @@ pub way_taken : (network : Network) (most : ℕ) (leg : Leg) → is_taken networ
 unfolding way_at
 way_taken network most leg taken = ap (λ b. if b then [] else as_list (trace network most leg [])) taken
 
-way_left : (network : Network) (most : ℕ) (leg : Leg) → is_taken network leg ≡ false → way_at network most leg ≡ as_list (trace network most leg [])
+-- it is what is found back from it, where the entry goes on in none
+pub way_left : (network : Network) (most : ℕ) (leg : Leg) → is_taken network leg ≡ false → way_at network most leg ≡ as_list (trace network most leg [])
 unfolding way_at
 way_left network most leg left = ap (λ b. if b then [] else as_list (trace network most leg [])) left
 
-pub way_round : (network : Network) (most : ℕ) (leg : Leg) → is_taken network leg ≡ false → None ≡ option_map entries_of (trace network most leg []) → way_at network most leg ≡ []
+pub way_round : (network : Network) (most : ℕ) (leg : Leg) → is_taken network leg ≡ false → None ≡ option_map entries_of (trace network most leg [])
+    → way_at network most leg ≡ []
 way_round network most leg left e = way_left network most leg left ∙ go (trace network most leg []) e
   where
     go : (o : Option Way) → None ≡ option_map entries_of o → as_list o ≡ []
@@ -123,6 +130,7 @@ told_by named most number leg legs left e = go (trace named.network most leg [])
     go (Some way) t e =
         let at : way_at named.network most leg ≡ way ∷ [] = way_left named.network most leg left ∙ ap as_list t in
         record {
-          lines = ap (numbered (way_lines named) number) at ∙ one_way named number way ∙ ap (way_lines_of named number) (sym (same_Some legs (entries_of way) e));
+          lines =
+              ap (numbered (way_lines named) number) at ∙ one_way named number way ∙ ap (way_lines_of named number) (sym (same_Some legs (entries_of way) e));
           one = ap length at;
         }

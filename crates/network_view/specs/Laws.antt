@@ -1,5 +1,5 @@
 -- API: what is proved of the text of a network.
-use Rattle.std.specs.Prelude.{◌≡◌, ◌≤◌, ◌<◌, ℕ, true, false, List, length}
+use Rattle.std.specs.Prelude.{◌≡◌, ◌↔◌, ◌≤◌, ℕ, true, false, List, length}
 use Rattle.std.specs.List.{Contains}
 use Rattle.otn_base.specs.LineSlots.{LineSlots}
 use Rattle.packet_text.specs.PacketText.{hex_text}
@@ -31,11 +31,17 @@ abbrev pub TellsWays : Type 0
 TellsWays = (network : Network) (way : Way) → Contains (ways_of network) way
     → IsRoute network way.first way.rest × IsFirst network way.first × IsLast network (last_leg way.first way.rest)
 
--- Each such way is told, that has no more entries than the network.
+-- Each such way is told.
 abbrev pub TellsEachWay : Type 0
 TellsEachWay = (network : Network) (first : Leg) (rest : List Leg) → IsNetwork network
     → IsRoute network first rest → IsFirst network first → IsLast network (last_leg first rest)
-    → length rest < most_steps network → Contains (ways_of network) (record { first = first; rest = rest })
+    → Contains (ways_of network) (record { first = first; rest = rest })
+
+-- The way to an entry is told to go round exactly where no way leads to it from an entry in which none goes on.
+abbrev pub TellsRounds : Type 0
+TellsRounds = (network : Network) (leg : Leg) → IsNetwork network → IsLeg network leg
+    → (is_round network (most_steps network) leg ≡ true) ↔ ((first : Leg) (rest : List Leg) → IsRoute network first rest
+    → IsFirst network first → last_leg first rest ≡ leg → ⊥)
 
 -- ---- turns
 

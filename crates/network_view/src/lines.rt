@@ -6,7 +6,6 @@ ghost use Rattle.network_view.specs.Slots.{line_slots};
 ghost use Rattle.network_view.specs.Steps.Traced.{way_lines_of};
 ghost use Rattle.network_view.specs.Ways.{is_in_step};
 
-use crate::fibre::FibreEnds;
 use crate::named::{Leg, NamedNetwork};
 use crate::slots::{free_slots, kind_out};
 use crate::trouble::{is_round, is_unmet, is_untaken, why};
@@ -14,6 +13,7 @@ use crate::words::{
     text_of_begin, text_of_end, text_of_from, text_of_numbers, text_of_to, text_of_turns,
     word_of_kind, word_of_line_kind, word_of_mask, word_of_step, word_of_why,
 };
+use network_parts::FibreEnds;
 use otn_base::Memory;
 use plan_file::{Connection, Plan};
 use std::alloc::{AllocError, Global};
@@ -95,8 +95,8 @@ fn text_of_slots(alloc: Global, plan: &Plan, line: u8) -> Result<String, Memory>
     Ok(format!(in alloc; "used {used} free {slots}")?)
 }
 
-// How many slots of a line are left beside these.
-fn used_of(plan: &Plan, line: u8, free: &[u8]) -> usize
+/// How many slots of line output `line` of the plan are left beside these.
+pub fn used_of(plan: &Plan, line: u8, free: &[u8]) -> usize
     ensures { result ≡ line_slots plan.now line - length free.now }
 {
     (kind_out(plan, line).slots() as usize).saturating_sub(free.len())
@@ -184,22 +184,22 @@ fn text_of_way_turns(
     Ok(format!(in alloc; "nodes {nodes} later {later} turns {turns}")?)
 }
 
-// The nodes of a way with so many behind its first.
-fn way_nodes(behind: usize) -> u128
+/// The nodes of a way with so many after its first.
+pub fn way_nodes(behind: usize) -> u128
     ensures { result ≡ 1 + behind }
 {
     1 + behind as u128
 }
 
-// How many turns later what a client sends is at the end of a way with so many nodes behind its first.
-fn turns_later(behind: usize) -> u128
+/// How many turns later what a client sends is at the end of a way of so many nodes after its first.
+pub fn turns_later(behind: usize) -> u128
     ensures { result ≡ 1 + 3 * behind }
 {
     1 + 3 * behind as u128
 }
 
-// The last entry of a way.
-fn last_of<'b, 'a>(first: &'b Leg<'a>, rest: &'b [Leg<'a>]) -> &'b Leg<'a>
+/// The last entry of a way.
+pub fn last_of<'b, 'a>(first: &'b Leg<'a>, rest: &'b [Leg<'a>]) -> &'b Leg<'a>
     ensures { result.now ≡ last_leg first.now rest.now }
 {
     if rest.is_empty() {
@@ -208,8 +208,8 @@ fn last_of<'b, 'a>(first: &'b Leg<'a>, rest: &'b [Leg<'a>]) -> &'b Leg<'a>
     &rest[rest.len() - 1]
 }
 
-// Whether all entries of a way begin with the same turn.
-fn is_in_step(first: &Leg, rest: &[Leg]) -> bool
+/// Whether all entries of a way begin with the same turn.
+pub fn is_in_step(first: &Leg, rest: &[Leg]) -> bool
     ensures { result ≡ is_in_step first.now rest.now }
 {
     let start = first.entry().start;
@@ -270,7 +270,7 @@ fn text_of_entry_ends(alloc: Global, x: &Connection) -> Result<String, Memory>
 
 /// What is amiss with an entry of a network.
 #[derive(Clone, Copy, Debug, PartialEq, Eq)]
-pub(crate) enum Trouble {
+pub enum Trouble {
     /// None goes on in it, where a fibre leads to its line.
     Unmet,
     /// It goes on in none, where a fibre begins at its line.

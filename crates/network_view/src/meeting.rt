@@ -10,10 +10,14 @@ use plan_file::{Connection, FromEnd, ToEnd};
 /// How near an entry comes to go on in another, that does not: on the same slots and port, but not in all turns; on the
 /// same slots in a common turn; or on a slot of them in a common turn; or not at all.
 #[derive(Clone, Copy, Debug, PartialEq, Eq)]
-pub(crate) enum Likeness {
+pub enum Likeness {
+    /// On the same slots by the same port, but not in all turns.
     Turns,
+    /// On the same slots in a common turn, by another port.
     Port,
+    /// On one of these slots in a common turn.
     Slots,
+    /// None of these.
     Nothing,
 }
 

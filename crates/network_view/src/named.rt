@@ -2,7 +2,7 @@
 ghost use Rattle.std.specs.Prelude.{◌≡◌, ◌++◌, IfOk};
 ghost use Rattle.network_view.specs.Entries.{legs_of, legs_at, name_of};
 
-use crate::fibre::FibreEnds;
+use network_parts::FibreEnds;
 use otn_base::Memory;
 use plan_file::{Connection, Name, Plan};
 use std::alloc::Global;

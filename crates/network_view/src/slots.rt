@@ -10,7 +10,7 @@ use std::alloc::Global;
 use turn_pieces::kind_by;
 
 /// The slots of line output `line` of the plan that no connection has in any turn, in rising order.
-pub(crate) fn free_slots(alloc: Global, plan: &Plan, line: u8) -> Result<Vec<u8>, Memory>
+pub fn free_slots(alloc: Global, plan: &Plan, line: u8) -> Result<Vec<u8>, Memory>
     ensures free { IfOk result (λ free. free.items ≡ free_slots plan.now line) }
 {
     let mut free = Vec::new(alloc);
@@ -33,7 +33,7 @@ fn add_free(free: &mut Vec<u8>, plan: &Plan, line: u8, slot: u8) -> Result<(), M
 }
 
 /// The kind of a line output of the plan.
-pub(crate) fn kind_out(plan: &Plan, line: u8) -> LineKind
+pub fn kind_out(plan: &Plan, line: u8) -> LineKind
     ensures { result ≡ (form_out plan.now line).kind }
 {
     kind_by(plan.otu3_out.as_slice(), line)

@@ -59,13 +59,15 @@ fn is_met(troubles: &[u8]) -> bool
     }
 }
 
-fn answer_of(met: bool) -> Told
+/// How a telling ended that was written whole, where all meets or not.
+pub fn answer_of(met: bool) -> Told
     ensures { result ≡ answer_of met }
 {
     if met { Told::Met } else { Told::Unmet }
 }
 
-fn word_of_status(met: bool) -> &'static str
+/// Whether all meets, as the word of the last line.
+pub fn word_of_status(met: bool) -> &'static str
     ensures { result.now ≡ status_word met }
 {
     if met { "met" } else { "unmet" }

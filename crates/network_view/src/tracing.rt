@@ -3,9 +3,9 @@ ghost use Rattle.std.specs.Prelude.{◌≡◌, ◌∷◌, [], IfOk, Some, option
 ghost use Rattle.network_ways.specs.Tracing.{before, by_fibre, entry_of, first_entry, goes_on, trace};
 ghost use Rattle.network_view.specs.Steps.Traced.{entries_of};
 
-use crate::fibre::FibreEnds;
 use crate::meeting::goes_on;
 use crate::named::{Leg, NamedNetwork};
+use network_parts::FibreEnds;
 use otn_base::Memory;
 use plan_file::{Connection, Plan};
 use std::alloc::Global;

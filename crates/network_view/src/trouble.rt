@@ -4,10 +4,10 @@ ghost use Rattle.std.specs.List.{list_any};
 ghost use Rattle.network_ways.specs.Tracing.{goes_on, trace};
 ghost use Rattle.network_view.specs.Troubles.{any_in, comes_over, feeds, goes_over, is_like, is_taken, is_unmet, is_untaken, likely_before, likely_by, starts_fibre, takes_by, why};
 
-use crate::fibre::FibreEnds;
 use crate::meeting::{Likeness, goes_on, is_like};
 use crate::named::{Leg, NamedNetwork};
 use crate::tracing::{before, way_to};
+use network_parts::FibreEnds;
 use otn_base::Memory;
 use plan_file::{Connection, FromEnd, ToEnd};
 use std::alloc::Global;
@@ -15,7 +15,7 @@ use std::alloc::Global;
 // ---- the entry after one
 
 /// Whether an entry goes on in another one.
-pub(crate) fn is_taken(named: &NamedNetwork, here: &Leg) -> bool
+pub fn is_taken(named: &NamedNetwork, here: &Leg) -> bool
     ensures { result ≡ is_taken named.now.network here.now }
 {
     named.fibres().iter().any(|f| takes_by(named, here, f))
@@ -47,7 +47,7 @@ fn goes_on_in(x: &Connection, entries: &[Connection], f: &FibreEnds) -> bool
 }
 
 /// Whether an entry goes to a line at which a fibre begins, and goes on in none.
-pub(crate) fn is_untaken(named: &NamedNetwork, here: &Leg) -> bool
+pub fn is_untaken(named: &NamedNetwork, here: &Leg) -> bool
     ensures { result ≡ is_untaken named.now.network here.now }
 {
     goes_over(named, here) && !is_taken(named, here)
@@ -71,7 +71,7 @@ fn starts_fibre(here: &Leg, f: &FibreEnds) -> bool
 // ---- the entry before one
 
 /// Whether an entry comes from a line to which a fibre leads, and none goes on in it.
-pub(crate) fn is_unmet(named: &NamedNetwork, next: &Leg) -> bool
+pub fn is_unmet(named: &NamedNetwork, next: &Leg) -> bool
     ensures { result ≡ is_unmet named.now.network next.now }
 {
     comes_over(named, next) && before(named, next).is_none()
@@ -93,7 +93,7 @@ fn feeds(next: &Leg, f: &FibreEnds) -> bool
 }
 
 /// How near the entries come to go on in it, that may be before it.
-pub(crate) fn why(named: &NamedNetwork, next: &Leg) -> Likeness
+pub fn why(named: &NamedNetwork, next: &Leg) -> Likeness
     ensures { result ≡ why named.now.network next.now }
 {
     if likely_before(named, Likeness::Turns, next) {
@@ -144,12 +144,7 @@ fn is_like_one(like: Likeness, entries: &[Connection], y: &Connection, f: &Fibre
 // ---- no beginning
 
 /// Whether the way to an entry has no beginning, in at most so many steps back.
-pub(crate) fn is_round(
-    alloc: Global,
-    named: &NamedNetwork,
-    most: usize,
-    end: &Leg,
-) -> Result<bool, Memory>
+pub fn is_round(alloc: Global, named: &NamedNetwork, most: usize, end: &Leg) -> Result<bool, Memory>
     ensures { IfOk result (λ round. round ≡ is_none (trace named.now.network most end.now [])) }
 {
     Ok(way_to(alloc, named, most, end)?.is_none())

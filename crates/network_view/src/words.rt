@@ -11,7 +11,7 @@ use plan_file::{Connection, FromEnd, ToEnd};
 use std::alloc::{AllocError, Global};
 
 /// The kind of a line.
-pub(crate) fn word_of_line_kind(kind: LineKind) -> &'static str
+pub fn word_of_line_kind(kind: LineKind) -> &'static str
     ensures { result.now ≡ line_kind_word kind }
 {
     match kind {
@@ -28,7 +28,7 @@ pub(crate) fn word_of_mask(scrambled: bool) -> &'static str
 }
 
 /// What an entry carries.
-pub(crate) fn word_of_kind(kind: Kind) -> &'static str
+pub fn word_of_kind(kind: Kind) -> &'static str
     ensures { result.now ≡ kind_word kind }
 {
     match kind {
@@ -45,7 +45,7 @@ pub(crate) fn word_of_step(in_step: bool) -> &'static str
 }
 
 /// Why none goes on in an entry.
-pub(crate) fn word_of_why(why: Likeness) -> &'static str
+pub fn word_of_why(why: Likeness) -> &'static str
     ensures { result.now ≡ why_word why }
 {
     match why {
@@ -56,7 +56,8 @@ pub(crate) fn word_of_why(why: Likeness) -> &'static str
     }
 }
 
-fn word_of_signal(signal: Signal) -> &'static str
+/// The signal that an entry makes.
+pub fn word_of_signal(signal: Signal) -> &'static str
     ensures { result.now ≡ signal_word signal }
 {
     match signal {
@@ -187,8 +188,9 @@ fn text_of_count(alloc: Global, count: u128) -> Result<String, Memory>
     Ok(format!(in alloc; "{count}")?)
 }
 
-// Turns from the first to the last, but for three for each node behind the first.
-fn turns_left(start: u32, stop: u32, behind: usize) -> u128
+/// In how many turns what is sent at the beginning of a way comes in time: from the first turn to the last, but for
+/// three for each node after the first.
+pub fn turns_left(start: u32, stop: u32, behind: usize) -> u128
     ensures { result ≡ stop - start - 3 * behind }
 {
     (stop as u128)

@@ -1,4 +1,4 @@
-use Rattle.std.proofs.Common.{◌≡◌, ◌<◌, ◌∙◌, ◌==◌, length, rules, arith, false, sym}
+use Rattle.std.proofs.Common.{◌<◌, ◌∙◌, length, rules}
 use Rattle.network_view.proofs.Ways.{last_at}
 use Rattle.network_view.proofs.lines.last_of.Goals as goal
 

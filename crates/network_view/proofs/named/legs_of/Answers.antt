@@ -1,4 +1,4 @@
-use Rattle.std.proofs.Common.{◌≡◌, ◌∙◌, ◌++◌, ap, sym, arith}
+use Rattle.std.proofs.Common.{◌∙◌, ◌++◌, ap, sym, arith}
 use Rattle.plan_file.specs.declared.plan.Plan.{Plan}
 use Rattle.network_view.specs.Entries.{legs_at}
 use Rattle.network_view.proofs.Lists.{known_item, legs_none, legs_of_more}

@@ -8,7 +8,8 @@ use Rattle.network_view.proofs.slots.free_slots.Goals as goal
 
 pub loop-k-preserved : goal.loop-k-preserved
 loop-k-preserved c =
-    filter_more (λ k. not (is_used c.args.plan.now c.args.line k)) c.loop-k.k c.loop-k.free.items c.add_free.new.free.items c.loop-k.invariant c.in_ok-add_free.ensures
+    filter_more (λ k. not (is_used c.args.plan.now c.args.line k)) c.loop-k.k c.loop-k.free.items c.add_free.new.free.items c.loop-k.invariant
+    c.in_ok-add_free.ensures
 
 pub returns : goal.returns
 unfolding free_slots

@@ -1,4 +1,4 @@
-use Rattle.std.proofs.Common.{◌≡◌, ◌∙◌, ◌++◌, Option, Some, None, true, false, [], ap, sym, rules, length, append-nil}
+use Rattle.std.proofs.Common.{◌≡◌, ◌∙◌, ◌++◌, Some, None, true, false, [], ap, sym, rules, length, append-nil}
 use Rattle.std.specs.Prelude.{option_map, string_bytes}
 use Rattle.network_ways.specs.Tracing.{trace}
 use Rattle.network_view.specs.NetworkText.{numbered, way_lines}
@@ -16,7 +16,8 @@ returns-then-is_taken-clause-text c =
     sym (ap (λ ways. old ++ numbered f c.args.number ways) none ∙ ap (λ t. old ++ t) (numbered_none f c.args.number) ∙ append-nil old)
 
 pub returns-then-is_taken-clause-told : goal.returns-then-is_taken-clause-told
-returns-then-is_taken-clause-told c = sym (ap length (way_taken c.args.named.now.network c.args.most c.args.end.now (sym c.is_taken.ensures ∙ c.if-is_taken.true)))
+returns-then-is_taken-clause-told c =
+    sym (ap length (way_taken c.args.named.now.network c.args.most c.args.end.now (sym c.is_taken.ensures ∙ c.if-is_taken.true)))
 
 pub returns-in_default-clause-text : goal.returns-in_default-clause-text
 returns-in_default-clause-text c =
@@ -37,7 +38,8 @@ returns-clause-text c =
     let legs = c.in-Some.way.items in
     let some : Some legs ≡ option_map entries_of (trace c.args.named.now.network c.args.most c.args.end.now []) = search rules in
     let told = told_by c.args.named.now c.args.most c.args.number c.args.end.now legs (sym c.is_taken.ensures ∙ c.if-is_taken.false) some in
-    c.in_ok-push_str.ensures.bytes ∙ ap (λ t. old ++ t) (c.deref.ensures ∙ (let said = c.in_ok-lines.ensures in let items = c.as_slice.ensures.value in let lines = told.lines in cc))
+    c.in_ok-push_str.ensures.bytes ∙ ap (λ t. old ++ t)
+    (c.deref.ensures ∙ (let said = c.in_ok-lines.ensures in let items = c.as_slice.ensures.value in let lines = told.lines in cc))
 
 pub returns-clause-told : goal.returns-clause-told
 returns-clause-told c =

@@ -1,4 +1,4 @@
-use Rattle.std.proofs.Common.{◌≡◌, ◌∙◌, ◌+◌, ◌++◌, length, refl, ap, sym, arith}
+use Rattle.std.proofs.Common.{◌≡◌, ◌∙◌, ◌+◌, ◌++◌, length, refl, sym, arith}
 use Rattle.std.specs.Prelude.{string_bytes}
 use Rattle.network_view.specs.NetworkText.{numbered, way_lines}
 use Rattle.network_view.specs.Ways.{way_at}
@@ -16,7 +16,8 @@ loop-i-preserved c =
     let x = c.index-legs-i.result in
     let inv = c.loop-i.invariant in
     let known = known_item all i x (let less = c.loop-i-test.true in omega arith) c.index-legs-i.is in
-    let more : string_bytes c.add_way.new.text ≡ string_bytes c.loop-i.text ++ numbered (way_lines c.args.named.now) (c.loop-i.count + 1) (way_at network (length all) x) =
+    let more : string_bytes c.add_way.new.text ≡ string_bytes c.loop-i.text ++ numbered (way_lines c.args.named.now) (c.loop-i.count + 1)
+    (way_at network (length all) x) =
     let said = c.in_ok-count.ensures.text in let is = c.index-legs-i.is in cc in
     let ways : c.in_ok-count.field-0 ≡ length (way_at network (length all) x) = let said = c.in_ok-count.ensures.told in let is = c.index-legs-i.is in cc in
     record {

@@ -12,7 +12,8 @@ returns-in-Some c =
     let i = c.loop-f.f-index in
     let f = c.f-item.result in
     let some : by_fibre network next f ≡ Some c.in-Some.here = search rules in
-    sym (c.loop-f.invariant ∙ before_stop network next c.in-Some.here all i f (known_item all i f (let less = c.loop-f-test.true in omega arith) c.f-item.is) some)
+    sym (c.loop-f.invariant ∙ before_stop network next c.in-Some.here all i f
+    (known_item all i f (let less = c.loop-f-test.true in omega arith) c.f-item.is) some)
 
 pub loop-f-preserved : goal.loop-f-preserved
 loop-f-preserved c =

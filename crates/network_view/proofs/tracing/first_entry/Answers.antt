@@ -1,4 +1,4 @@
-use Rattle.std.proofs.Common.{◌≡◌, ◌∙◌, Bool, true, false, sym, arith, rules}
+use Rattle.std.proofs.Common.{◌≡◌, ◌∙◌, Bool, true, false, sym, arith}
 use Rattle.plan_file.specs.declared.connection.Connection.{Connection}
 use Rattle.network_ways.specs.Tracing.{goes_on}
 use Rattle.network_view.proofs.Lists.{known_item}

@@ -5,7 +5,7 @@ use std::marker::Model;
 
 /// A fibre: from a line output (0 to 3) of one node to a line input (0 to 3) of one. Nodes are given by their index,
 /// from 0 in the order of the file.
-#[derive(Debug, Drop)]
+#[derive(Clone, Copy, Debug, PartialEq, Eq, Drop)]
 pub struct FibreEnds {
     here: usize,
     out: u8,
@@ -19,6 +19,8 @@ impl Model for FibreEnds {
     ghost Value = { FibreEnds };
 
     ghost view = { λ f. record { here = f.here; out = f.out; there = f.there; into = f.into } };
+
+    ghost inverse = { λ f. record { here = f.here; out = f.out; there = f.there; into = f.into } };
 }
 
 impl FibreEnds {

@@ -1,0 +1,5 @@
+pub mod Added
+pub mod Meeting
+pub mod Telling
+pub mod Traced
+pub mod Values

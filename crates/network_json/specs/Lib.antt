@@ -1,0 +1,2 @@
+pub mod NetworkJson
+pub mod Steps

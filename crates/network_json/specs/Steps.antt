@@ -1,0 +1,2 @@
+-- What private contracts alone cite: the steps of functions. No promise stands on them.
+pub mod Entries
