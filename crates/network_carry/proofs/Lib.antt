@@ -1,0 +1,4 @@
+pub mod Began
+pub mod Opened
+pub mod PutEnds
+pub mod Turning

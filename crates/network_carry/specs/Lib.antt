@@ -1,0 +1,4 @@
+pub mod Carried
+pub mod Ends
+pub mod Fillings
+pub mod Opening
