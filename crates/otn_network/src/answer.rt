@@ -1,4 +1,6 @@
 // How the program ends, and what it complains of.
+use crate::summary::word_of;
+use device_model::Outcome;
 use network_file::{NetworkError, Place};
 use plan_file::PlanError;
 use std::process::ExitCode;
@@ -10,6 +12,8 @@ pub(crate) enum Answer {
     Met,
     /// Some does not meet.
     Unmet,
+    /// The network was run, and ended so.
+    Ran(Outcome),
     /// The words have another form.
     Words,
     /// The file breaks this rule first, at this place.
@@ -22,29 +26,34 @@ pub(crate) enum Answer {
     ReportFault,
     /// There was no memory.
     Memory,
+    /// The nodes of these numbers have one folder, and can't be run.
+    OneFolder(usize, usize),
 }
 
-/// The exit status: 0 to 5, and 7.
+/// The exit status: 0 to 8.
 pub(crate) fn exit_code(answer: &Answer) -> ExitCode {
     ExitCode::from(code_of(answer))
 }
 
 fn code_of(answer: &Answer) -> u8 {
     match answer {
-        Answer::Met => 0,
-        Answer::Unmet => 1,
+        Answer::Met | Answer::Ran(Outcome::Done) => 0,
+        Answer::Unmet | Answer::Ran(Outcome::Unfinished) => 1,
         Answer::Words => 2,
         Answer::Network(..) | Answer::Plan(..) => 3,
         Answer::Fault => 4,
         Answer::ReportFault => 5,
+        Answer::Ran(Outcome::Cut) => 6,
         Answer::Memory => 7,
+        Answer::OneFolder(..) => 8,
     }
 }
 
 /// Writes to standard error what is wrong, if anything is.
 pub(crate) fn complain(rt: &HostRuntime, answer: &Answer) {
     match answer {
-        Answer::Met | Answer::Unmet => {}
+        Answer::Met | Answer::Unmet | Answer::Ran(Outcome::Done) => {}
+        Answer::Ran(outcome) => say(rt, word_of(*outcome)),
         Answer::Words => say(rt, "words"),
         Answer::Network(error, place) => say_network(rt, *error, *place),
         Answer::Plan(number, name, error, place) => {
@@ -54,6 +63,7 @@ pub(crate) fn complain(rt: &HostRuntime, answer: &Answer) {
         Answer::Fault => say(rt, "fault"),
         Answer::ReportFault => say(rt, "report fault"),
         Answer::Memory => say(rt, "memory"),
+        Answer::OneFolder(one, other) => say_one_folder(rt, *one, *other),
     }
 }
 
@@ -69,4 +79,8 @@ fn say_network(rt: &HostRuntime, error: NetworkError, place: Place) {
 fn say_plan(rt: &HostRuntime, name: &str, error: PlanError, place: u64) {
     let rule = error.code();
     let _ = eprintln!(rt; "otn_network: plan {rule} at {place} of {name}");
+}
+
+fn say_one_folder(rt: &HostRuntime, one: usize, other: usize) {
+    let _ = eprintln!(rt; "otn_network: nodes {one} and {other} have one folder");
 }

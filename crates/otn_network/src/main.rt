@@ -1,8 +1,12 @@
 //! `otn_network`, the ways of a network, told: reads the file of the network and the plan of each of its nodes, and
-//! hands them, and standard output, to the call that tells them, as text or as JSON.
+//! hands them, and standard output, to the call that tells them, as text or as JSON. `otn_network run` hands them, with
+//! the files of the nodes, to the one call that runs the network.
 //!
 //! - `words`: the words after the program's name.
 //! - `reading`: the file of the network, and the plans of its nodes.
+//! - `run_words`, `running`: the words of `run`, and the run of a network.
+//! - `files`, `marks`: the files of a node, and which files are read or written.
+//! - `summary`: what is told beside the reports of the nodes.
 //! - `answer`: how the program ends, and what it complains of.
 #![tactic(auto)]
 
@@ -13,11 +17,20 @@ use otn_base::Memory;
 use otn_ports::StdoutSink;
 use program_words::{given_words, take_standard};
 use reading::{Joined, Read, fibres_of, names_of, read_all};
+use run_words::{RunAsked, behind_run, run_asked};
+use running::run_file;
 use std::process::ExitCode;
 use words::{Asked, asked_of};
 
 mod answer;
+mod files;
+mod marks;
 mod reading;
+mod run_words;
+mod running;
+mod summary;
+#[cfg(test)]
+mod tests;
 mod words;
 
 /// The page that `otn_network --help` writes.
@@ -28,9 +41,16 @@ the ways of a network of nodes, in words and numbers (docs/NETWORKS.md)
                          each fibre with its free slots, each customer's way, what does not meet, and whether all does
   otn_network --json [FILE]
                          the same as one line of JSON
+  otn_network run [FILE] [--lines LIST]
+                         runs all its nodes turn by turn, with the fibres in memory: reads each node's client files,
+                         and the lines that no fibre leads to, as otn run does in its folder; writes the clients there,
+                         and the lines at which no fibre begins; and reports each node by its name. LIST is all, or
+                         numbers of fibres, as 1,4: what goes over these is written too, as line-N.out where they begin
 
-It ends with 0 where all meets, with 1 where some does not, with 3 where the file or a plan is refused.
-A file named --help or --json is ./--help or ./--json.";
+The first two end with 0 where all meets, with 1 where some does not. run ends with 0 done, 1 unfinished, 6 cut, as
+otn run does for the nodes together, and with 8 where two nodes have one folder. All end with 2 for other words, 3 where
+the file or a plan is refused, 4 where one can't be read, 5 where a write of the report failed, 7 for want of memory.
+A file named --help, --json or run is ./--help, ./--json or ./run.";
 
 fn main(rt: HostRuntime) -> ExitCode {
     let _standard = take_standard(&rt);
@@ -42,6 +62,9 @@ fn main(rt: HostRuntime) -> ExitCode {
 // Tells the network of the file that the words name, or writes the page.
 fn serve(rt: &HostRuntime) -> Result<Answer, Memory> {
     let words = given_words(rt, rt.alloc())?;
+    if let Some(rest) = behind_run(words.as_slice()) {
+        return run(rt, rest);
+    }
     match asked_of(words.as_slice()) {
         Asked::Page => {
             let text = HELP;
@@ -53,6 +76,14 @@ fn serve(rt: &HostRuntime) -> Result<Answer, Memory> {
         Asked::Nothing => Ok(Answer::Words),
         Asked::File(path) => tell(rt, path),
         Asked::Json(path) => tell_json(rt, path),
+    }
+}
+
+// Runs the network that the words behind `run` name.
+fn run(rt: &HostRuntime, rest: &[String]) -> Result<Answer, Memory> {
+    match run_asked(rest) {
+        RunAsked::Run(path, list) => run_file(rt, path, list),
+        RunAsked::Nothing => Ok(Answer::Words),
     }
 }
 

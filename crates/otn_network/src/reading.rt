@@ -1,4 +1,9 @@
 // The file of the network, and the plans of its nodes.
+ghost use Rattle.std.specs.Prelude.{◌≡◌, length};
+ghost use Rattle.network_laws.specs.Networks.{IsNetwork};
+ghost use Rattle.network_file.specs.Joining.{network_of};
+ghost use Rattle.network_file.specs.Sound.{IsSound};
+
 use crate::answer::Answer;
 use check_command::{Planned, read_plan};
 use network_file::{FibreEnds, NetworkFile, NoNetwork, NodeEntry, fault};
@@ -16,6 +21,9 @@ use std::fs;
 pub(crate) struct Joined {
     pub(crate) file: NetworkFile,
     pub(crate) plans: Vec<Plan>,
+    ghost sound: { IsSound file },
+    ghost count: { length plans.items ≡ length file.nodes },
+    ghost network: { IsNetwork (network_of file plans.items) },
 }
 
 /// What was read.
@@ -46,15 +54,17 @@ fn buffer(alloc: Global) -> Result<Vec<u8>, AllocError> {
     vec![in alloc; 0; MOST_PLAN_BYTES + 1]
 }
 
-// The folder of a file, with the slash behind it.
-fn base_of(path: &str) -> &str {
+/// The folder of a file, with the slash behind it.
+pub(crate) fn base_of(path: &str) -> &str {
     match path.rfind('/') {
         Some(at) => &path[..at + 1],
         None => "",
     }
 }
 
-fn read_plans(rt: &HostRuntime, base: &str, file: NetworkFile) -> Result<Read, Memory> {
+fn read_plans(rt: &HostRuntime, base: &str, file: NetworkFile) -> Result<Read, Memory>
+    requires sound { IsSound file }
+{
     let mut plans = Vec::new(rt.alloc());
     let nodes = file.nodes.as_slice();
     for i in 0..nodes.len() {
