@@ -1,0 +1,2 @@
+pub mod ViewOf
+pub mod Laws
