@@ -5,6 +5,7 @@
 //! - `words`: the words after the program's name.
 //! - `reading`: the file of the network, and the plans of its nodes.
 //! - `run_words`, `running`: the words of `run`, and the run of a network.
+//! - `sites`: the nodes of a network over their places, and their run.
 //! - `files`, `marks`: the files of a node, and which files are read or written.
 //! - `summary`: what is told beside the reports of the nodes.
 //! - `answer`: how the program ends, and what it complains of.
@@ -28,6 +29,7 @@ mod marks;
 mod reading;
 mod run_words;
 mod running;
+mod sites;
 mod summary;
 #[cfg(test)]
 mod tests;

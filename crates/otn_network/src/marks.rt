@@ -1,4 +1,6 @@
 // Which files of the system are read or written, so that no output is one of them.
+ghost use Rattle.std.specs.Prelude.{◌<◌, IfSome, length};
+
 use otn_base::Memory;
 use program_words::{FileNumber, made_output, number_of};
 use std::alloc::Global;
@@ -50,7 +52,7 @@ struct FolderNumber {
     number: u64,
 }
 
-/// The indexes of the first two of these folders that are one, whatever their names.
+/// The numbers, from 1, of the first two of these folders that are one, whatever their names.
 pub(crate) fn one_folder(
     rt: &HostRuntime,
     folders: &[String],
@@ -59,7 +61,7 @@ pub(crate) fn one_folder(
     for i in 0..folders.len() {
         let number = folder_number(rt, folders[i].as_str());
         if let Some(earlier) = place_of(numbers.as_slice(), number) {
-            return Ok(Some((earlier, i)));
+            return Ok(Some((earlier + 1, i + 1)));
         }
         numbers.push(number)?;
     }
@@ -78,7 +80,9 @@ fn number_in(metadata: &Metadata) -> FolderNumber {
     }
 }
 
-fn place_of(numbers: &[Option<FolderNumber>], number: Option<FolderNumber>) -> Option<usize> {
+fn place_of(numbers: &[Option<FolderNumber>], number: Option<FolderNumber>) -> Option<usize>
+    ensures { IfSome result (λ place. place < length numbers.now) }
+{
     if number.is_none() {
         return None;
     }

@@ -1,8 +1,9 @@
 // The file of the network, and the plans of its nodes.
-ghost use Rattle.std.specs.Prelude.{◌≡◌, length};
+ghost use Rattle.std.specs.Prelude.{◌≡◌, ◌<◌, None, Some, length, slice_get};
 ghost use Rattle.network_laws.specs.Networks.{IsNetwork};
 ghost use Rattle.network_file.specs.Joining.{network_of};
 ghost use Rattle.network_file.specs.Sound.{IsSound};
+ghost use Rattle.plan_file.specs.Answer.{fault_in};
 
 use crate::answer::Answer;
 use check_command::{Planned, read_plan};
@@ -24,6 +25,17 @@ pub(crate) struct Joined {
     ghost sound: { IsSound file },
     ghost count: { length plans.items ≡ length file.nodes },
     ghost network: { IsNetwork (network_of file plans.items) },
+}
+
+impl Joined {
+    /// The plan of the node with this index, which is accepted.
+    pub(crate) fn plan(&self, index: usize) -> &Plan
+        requires { index < length self.now.plans.items }
+        ensures at { slice_get self.now.plans.items index ≡ Some result.now }
+        ensures accepted { fault_in result.now ≡ None }
+    {
+        &self.plans[index]
+    }
 }
 
 /// What was read.

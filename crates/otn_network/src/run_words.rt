@@ -1,4 +1,6 @@
 // The words after `otn_network run`.
+ghost use Rattle.std.specs.Prelude.{◌<◌, IfSome};
+
 use otn_base::Memory;
 use std::alloc::Global;
 
@@ -67,7 +69,9 @@ pub(crate) fn fibres_named(
 }
 
 // The number that the word is, from 1.
-fn number_of(word: &str) -> Option<usize> {
+fn number_of(word: &str) -> Option<usize>
+    ensures { IfSome result (λ n. 0 < n) }
+{
     match word.parse::<usize>() {
         Ok(n) if n > 0 => Some(n),
         _ => None,

@@ -1,27 +1,25 @@
 // A network, run over the files of its nodes.
 ghost use Rattle.std.specs.Prelude.{◌≡◌, ◌<◌, IfOk, None, length};
 ghost use Rattle.plan_file.specs.Answer.{fault_in};
-ghost use Rattle.network_carry.specs.Opening.{AreOpened};
 
 use crate::answer::Answer;
 use crate::files::{Node, NodePlaces, make_outputs, mark_inputs, open_inputs, output};
 use crate::marks::{Marks, one_folder};
 use crate::reading::{Joined, Read, base_of, read_all};
 use crate::run_words::fibres_named;
+use crate::sites::{Ran, run_sites};
 use crate::summary::{Ending, last_lines, node_line, worse};
 use arrayvec::ArrayString;
 use device_model::{Outcome, RunNumbers};
-use network_carry::{Carried, Recording, carry_network, open_site};
+use network_carry::{Carried, Recording};
 use network_file::FibreEnds;
 use network_run::Site;
 use otn_base::Memory;
 use otn_ports::{FileSink, FileSource, StdoutSink};
 use plan_file::Plan;
-use port_base::{OutPlaceOf, Rack, Sink, Source, Written, is_dead_out, write_whole};
+use port_base::{OutPlaceOf, Rack, Written, is_dead_out, write_whole};
 use program_words::OutputFile;
 use run_report::put_report;
-
-type FileSites = Vec<Site<FileSource, FileSink>>;
 
 type FileRecordings = Vec<Recording<FileSink>>;
 
@@ -46,25 +44,13 @@ fn run_joined(
     };
     let folders = folders_of(rt, base_of(path), joined)?;
     if let Some((one, other)) = one_folder(rt, folders.as_slice())? {
-        return Ok(Answer::OneFolder(one + 1, other + 1));
+        return Ok(Answer::OneFolder(one, other));
     }
     let mut marks = marks_of(rt, path, folders.as_slice())?;
-    let mut sites = open_all(rt, folders.as_slice(), joined, &mut marks)?;
+    let places = open_all(rt, folders.as_slice(), joined, &mut marks)?;
     let mut recordings = record(rt, folders.as_slice(), fibres, named.as_slice(), &mut marks)?;
-    let carried = carry_network(
-        rt.alloc(),
-        &joined.file,
-        joined.plans.as_slice(),
-        &mut sites,
-        &mut recordings,
-    )?;
-    tell(
-        rt,
-        joined,
-        sites.as_slice(),
-        recordings.as_slice(),
-        &carried,
-    )
+    let ran = run_sites(rt.alloc(), joined, places, &mut recordings)?;
+    tell(rt, joined, &ran, recordings.as_slice())
 }
 
 // The folder of each node, with the slash behind it.
@@ -90,30 +76,27 @@ fn marks_of(rt: &HostRuntime, path: &str, folders: &[String]) -> Result<Marks, M
     Ok(marks)
 }
 
-// All nodes, before the first turn, over their files.
+// The places of all nodes, over their files.
 fn open_all(
     rt: &HostRuntime,
     folders: &[String],
     joined: &Joined,
     marks: &mut Marks,
-) -> Result<FileSites, Memory>
+) -> Result<Vec<NodePlaces>, Memory>
     requires each { length folders.now ≡ length joined.now.plans.items }
-    ensures { IfOk result (λ sites. AreOpened ⟦<FileSource as Source>⟧ ⟦<FileSink as Sink>⟧ joined.now.file.fibres
-        joined.now.plans.items sites.items) }
+    ensures { IfOk result (λ places. length places.items ≡ length joined.now.plans.items) }
 {
-    let mut sites = Vec::new(rt.alloc());
-    let plans = joined.plans.as_slice();
-    for index in 0..plans.len() {
+    let mut places = Vec::new(rt.alloc());
+    for index in 0..folders.len() {
         let node = Node {
             index,
-            plan: &plans[index],
+            plan: joined.plan(index),
             folder: folders[index].as_str(),
             fibres: joined.file.fibres.as_slice(),
         };
-        let bays = open_node(rt, node, marks)?;
-        sites.push(open_site(rt.alloc(), node.fibres, index, node.plan, bays)?)?;
+        places.push(open_node(rt, node, marks)?)?;
     }
-    Ok(sites)
+    Ok(places)
 }
 
 fn open_node(rt: &HostRuntime, node: Node<'_>, marks: &mut Marks) -> Result<NodePlaces, Memory> {
@@ -170,26 +153,25 @@ fn is_one_line(one: &FibreEnds, other: &FibreEnds) -> bool {
 fn tell(
     rt: &HostRuntime,
     joined: &Joined,
-    sites: &[Site<FileSource, FileSink>],
+    ran: &Ran<FileSource, FileSink>,
     recordings: &[Recording<FileSink>],
-    carried: &Carried,
 ) -> Result<Answer, Memory>
-    requires sites { length sites.now ≡ length joined.now.plans.items }
-    requires numbers { length carried.now.numbers.items ≡ length joined.now.plans.items }
+    requires sites { length ran.now.sites.items ≡ length joined.now.plans.items }
+    requires numbers { length ran.now.carried.numbers.items ≡ length joined.now.plans.items }
 {
     let mut report = StdoutSink::of(rt.stdout());
     let mut outcome = outcome_of(recordings);
     let nodes = joined.file.nodes.as_slice();
-    let plans = joined.plans.as_slice();
-    for i in 0..plans.len() {
-        let numbers = &carried.numbers[i];
+    for i in 0..nodes.len() {
+        let numbers = &ran.carried.numbers[i];
         let name = nodes[i].name.as_str();
-        if tell_node(rt, name, &plans[i], numbers, &sites[i], &mut report)? == Written::Lost {
+        let site = &ran.sites[i];
+        if tell_node(rt, name, joined.plan(i), numbers, site, &mut report)? == Written::Lost {
             return Ok(Answer::ReportFault);
         }
         outcome = worse(outcome, numbers.outcome);
     }
-    let last = last_lines(rt.alloc(), ending_of(joined, carried, outcome))?;
+    let last = last_lines(rt.alloc(), ending_of(joined, &ran.carried, outcome))?;
     Ok(match write_whole(&mut report, last.as_bytes()) {
         Written::Whole => Answer::Ran(outcome),
         Written::Lost => Answer::ReportFault,
