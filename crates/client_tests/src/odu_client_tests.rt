@@ -37,16 +37,11 @@ fn an_open_connection_then_a_client(rt: HostRuntime) -> Result<(), Fail> {
     let open = frame(alloc, 0x66)?;
     let client = frame(alloc, 0x01)?;
     let mut aligner = ClientAligner::new(alloc).map_err(|_memory| AllocError)?;
-    let by_bytes = (
-        first_news(&mut aligner, &open),
-        first_news(&mut aligner, &client),
-    );
-    let at_once = (aligner.take_some(&client), aligner.take_some(&open));
-    let (breaks, whole) = ((Aligned::Break, 15_296), (Aligned::Whole, 15_296));
-    assert_eq!(rt;
-        (by_bytes, at_once, aligner.frames()),
-        ((breaks, whole), (whole, breaks), 2)
-    );
+    assert_eq!(rt; first_news(&mut aligner, &open), (Aligned::Break, 15_296));
+    assert_eq!(rt; first_news(&mut aligner, &client), (Aligned::Whole, 15_296));
+    assert_eq!(rt; aligner.take_some(&client), (Aligned::Whole, 15_296));
+    assert_eq!(rt; aligner.take_some(&open), (Aligned::Break, 15_296));
+    assert_eq!(rt; aligner.frames(), 2);
     Ok(())
 }
 
@@ -96,10 +91,10 @@ const FIRST_BYTES: [u8; 16] = [
 #[test]
 fn an_empty_place(rt: HostRuntime) -> Result<(), Fail> {
     let made = first_frame(rt.alloc(), InPlaceOf::<MemSource>::Empty)?;
-    assert_eq!(rt;
-        (made.first, made.spent, made.packets, made.bad),
-        (FIRST_BYTES, (false, true), 0, None)
-    );
+    assert_eq!(rt; made.first, FIRST_BYTES);
+    assert_eq!(rt; made.spent, (false, true));
+    assert_eq!(rt; made.packets, 0);
+    assert_eq!(rt; made.bad, None);
     Ok(())
 }
 
@@ -113,11 +108,10 @@ fn a_packet_and_a_bad_line(rt: HostRuntime) -> Result<(), Fail> {
         0xB6, 0xAD, 0x51, 0x26, 0x00, 0x23, 0x14, 0x03, 0x00, 0x02, 0xB6, 0xAB, 0x31, 0xE0, 0xB6,
         0xAB, 0x31, 0xE0,
     ];
-    let as_made = made.rest.as_slice().starts_with(&front);
-    assert_eq!(rt;
-        (as_made, made.spent, made.packets, made.bad),
-        (true, (false, false), 2, Some(4))
-    );
+    assert!(rt; made.rest.as_slice().starts_with(&front));
+    assert_eq!(rt; made.spent, (false, false));
+    assert_eq!(rt; made.packets, 2);
+    assert_eq!(rt; made.bad, Some(4));
     Ok(())
 }
 
@@ -136,17 +130,10 @@ fn frames_of_a_payload(rt: HostRuntime) -> Result<(), Fail> {
         && payload.len() == 15_232
     {
         let first = maker.make(&payload, &trace);
-        assert_eq!(rt;
-            [
-                first.get(1, 7),
-                first.get(4, 15),
-                first.get(1, 17),
-                first.get(4, 3824)
-            ],
-            [0, 0x05, 0x5A, 0x5A]
-        );
+        assert!(rt; (first.get(1, 7), first.get(4, 15)) == (0, 0x05));
+        assert!(rt; (first.get(1, 17), first.get(4, 3824)) == (0x5A, 0x5A));
         let second = maker.make(&payload, &trace);
-        assert_eq!(rt; [second.get(1, 7), second.get(4, 15)], [1, 0]);
+        assert!(rt; (second.get(1, 7), second.get(4, 15)) == (1, 0));
         maker.restart();
         assert_eq!(rt; maker.make(&payload, &trace).get(1, 7), 0);
     }
@@ -208,15 +195,8 @@ fn idle_frames_go_on_from_frame_to_frame(rt: HostRuntime) -> Result<(), Fail> {
     let two = four_frames(alloc, b"1111\n")?;
     let three = four_frames(alloc, b"111111\n")?;
     let four = four_frames(alloc, b"11111111\n")?;
-    assert_eq!(rt;
-        [
-            strays(&one, 13),
-            strays(&two, 14),
-            strays(&three, 15),
-            strays(&four, 16)
-        ],
-        [0; 4]
-    );
+    assert_eq!(rt; (strays(&one, 13), strays(&two, 14)), (0, 0));
+    assert_eq!(rt; (strays(&three, 15), strays(&four, 16)), (0, 0));
     for frames in [&one, &two, &three, &four] {
         let sent = parities_sent(frames);
         assert_eq!(rt; sent, Some((parity_of(frames, 0), parity_of(frames, 1))));

@@ -42,15 +42,15 @@ fn short_texts(rt: HostRuntime) -> Result<(), Fail> {
         alloc,
         MemSource::new(Vec::from_slice(alloc, b"0A0b\r\n\nff")?),
     )?;
-    assert_eq!(rt;
-        (lengths.as_slice(), firsts.as_slice(), line),
-        ([2, 1].as_slice(), [0x0A, 0xFF].as_slice(), Line::End)
-    );
+    assert_eq!(rt; lengths.as_slice(), [2, 1].as_slice());
+    assert_eq!(rt; firsts.as_slice(), [0x0A, 0xFF].as_slice());
+    assert_eq!(rt; line, Line::End);
     let (lengths, _, line) = packets(
         alloc,
         MemSource::new(Vec::from_slice(alloc, b"0A0b\r\n\nabc\nff\n")?),
     )?;
-    assert_eq!(rt; (lengths.as_slice(), line), ([2].as_slice(), Line::Bad(3)));
+    assert_eq!(rt; lengths.as_slice(), [2].as_slice());
+    assert_eq!(rt; line, Line::Bad(3));
     Ok(())
 }
 
@@ -117,7 +117,8 @@ fn the_last_pair_is_judged(rt: HostRuntime) -> Result<(), Fail> {
     let alloc = rt.alloc();
     for text in [b"ff\n00112g\n", b"ff\n0011g2\n", b"ff\n00112\0\n"] {
         let (lengths, _, line) = packets(alloc, MemSource::new(Vec::from_slice(alloc, text)?))?;
-        assert_eq!(rt; (lengths.as_slice(), line), ([1].as_slice(), Line::Bad(2)));
+        assert_eq!(rt; lengths.as_slice(), [1].as_slice());
+        assert_eq!(rt; line, Line::Bad(2));
     }
     Ok(())
 }
@@ -135,11 +136,6 @@ fn lines_of(alloc: Global, bytes: usize, count: usize) -> Result<Vec<u8>, AllocE
     Ok(text)
 }
 
-// Whether all of these lengths are this one.
-fn all_are(lengths: &[usize], wanted: usize) -> bool {
-    lengths.iter().all(|length| *length == wanted)
-}
-
 #[test]
 fn the_shortest_and_the_longest(rt: HostRuntime) -> Result<(), Fail> {
     let alloc = rt.alloc();
@@ -149,10 +145,11 @@ fn the_shortest_and_the_longest(rt: HostRuntime) -> Result<(), Fail> {
         (65_528, 0, Line::Bad(1)),
     ] {
         let (lengths, _, last) = packets(alloc, MemSource::new(lines_of(alloc, bytes, 2)?))?;
-        assert_eq!(rt;
-            (lengths.len(), all_are(&lengths, bytes), last),
-            (count, true, line)
-        );
+        assert_eq!(rt; lengths.len(), count);
+        for length in lengths.as_slice() {
+            assert_eq!(rt; *length, bytes);
+        }
+        assert_eq!(rt; last, line);
     }
     Ok(())
 }
@@ -183,8 +180,8 @@ fn a_text_is_read_where_it_stands(rt: HostRuntime) -> Result<(), Fail> {
     let mut of_file = PacketLines::new(alloc).map_err(|_memory| AllocError)?;
     let mut of_memory = PacketLines::new(alloc).map_err(|_memory| AllocError)?;
     for _ in 0..990_u32 {
-        let lines = (of_file.take(&mut file), of_memory.take(&mut memory));
-        assert_eq!(rt; lines, (Line::Packet, Line::Packet));
+        assert_eq!(rt; of_file.take(&mut file), Line::Packet);
+        assert_eq!(rt; of_memory.take(&mut memory), Line::Packet);
         assert_eq!(rt; of_file.packet(), of_memory.packet());
     }
     assert_eq!(rt; of_file.take(&mut file), Line::End);
@@ -196,10 +193,11 @@ fn fails_at_the_third_read(rt: HostRuntime) -> Result<(), Fail> {
     let alloc = rt.alloc();
     let source = ListedSource::new(lines_of(alloc, 60, 200)?, [3_u32].to_vec(alloc)?, 4096);
     let (lengths, _, line) = packets(alloc, source)?;
-    assert_eq!(rt;
-        (lengths.len(), all_are(&lengths, 60), line),
-        (67, true, Line::Lost)
-    );
+    assert_eq!(rt; lengths.len(), 67);
+    for length in lengths.as_slice() {
+        assert_eq!(rt; *length, 60);
+    }
+    assert_eq!(rt; line, Line::Lost);
     Ok(())
 }
 
@@ -246,23 +244,13 @@ fn is_live<P>(place: &InPlaceOf<P>) -> bool {
 fn nothing_is_read_behind_the_last_answer(rt: HostRuntime) -> Result<(), Fail> {
     let alloc = rt.alloc();
     let ends = Vec::from_slice(alloc, b"ff\n01")?;
+    assert_eq!(rt; last_answer(alloc, ends, 3)?, (Line::End, 3, true));
     let bad = digits_behind(alloc, b"ff\nabc\n", 5000)?;
+    assert_eq!(rt; last_answer(alloc, bad, 2)?, (Line::Bad(2), 3, true));
     let long = digits_behind(alloc, b"", 140_000)?;
+    assert_eq!(rt; last_answer(alloc, long, 33)?, (Line::Bad(1), 3, true));
     let lost = lines_of(alloc, 60, 100)?;
-    assert_eq!(rt;
-        [
-            last_answer(alloc, ends, 3)?,
-            last_answer(alloc, bad, 2)?,
-            last_answer(alloc, long, 33)?,
-            last_answer(alloc, lost, 3)?,
-        ],
-        [
-            (Line::End, 3, true),
-            (Line::Bad(2), 3, true),
-            (Line::Bad(1), 3, true),
-            (Line::Lost, 3, false),
-        ]
-    );
+    assert_eq!(rt; last_answer(alloc, lost, 3)?, (Line::Lost, 3, false));
     Ok(())
 }
 
@@ -282,10 +270,8 @@ fn a_line_is_one_write(rt: HostRuntime) -> Result<(), Fail> {
     ] {
         assert_eq!(rt; write_packet(&mut place, &packet, &mut text), written);
     }
-    assert_eq!(rt;
-        (place.kept(), matches!(place, OutPlaceOf::Dead(_, 10))),
-        (Some(b"0aff\n0010\n".as_slice()), true)
-    );
+    assert_eq!(rt; place.kept(), Some(b"0aff\n0010\n".as_slice()));
+    assert!(rt; matches!(place, OutPlaceOf::Dead(_, 10)));
     Ok(())
 }
 
@@ -329,11 +315,11 @@ fn kept_lines_are_what_the_library_makes(rt: HostRuntime) -> Result<(), Fail> {
         (0, 256),
     ] {
         let (text, n) = kept_line(alloc, &all[from..to])?;
-        let wanted = said_line(alloc, &all[from..to])?;
         assert_eq!(rt;
-            (text.as_slice(), n),
-            (wanted.as_slice(), 2 * (to - from) + 1)
+            text.as_slice(),
+            said_line(alloc, &all[from..to])?.as_slice()
         );
+        assert_eq!(rt; n, 2 * (to - from) + 1);
     }
     let (text, _) = kept_line(alloc, b"\x01\x23\x45\x67\x89\xAB\xCD\xEF\xFE")?;
     assert_eq!(rt; text.as_slice(), b"0123456789abcdeffe\n?".as_slice());
