@@ -1,5 +1,6 @@
 -- The MSI bytes of a view, each with its slot.
-use Rattle.std.proofs.Common.{◌≡◌, ◌<◌, ◌≤◌, ◌+◌, ◌*◌, ◌⊎◌, inl, inr, ℕ, Bool, true, false, All, List, [], ◌∷◌, Option, Some, None, length, drop, get_or, refl, sym, subst, arith}
+use Rattle.std.proofs.Common.{◌≡◌, ◌<◌, ◌≤◌, ◌+◌, ◌*◌, ◌⊎◌, inl, inr, ℕ, Bool, true, false, All, List, []}
+use Rattle.std.proofs.Common.{◌∷◌, Option, Some, None, length, drop, get_or, refl, sym, subst, arith}
 use Rattle.std.specs.Prelude.{◌==◌, if◌then◌else◌, option_map}
 use Rattle.std.specs.List.{flat_map, range_with_len}
 use Rattle.std.proofs.lemmas.Bool.{cases_lt}
