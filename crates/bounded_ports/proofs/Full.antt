@@ -22,6 +22,7 @@ pub place_full : (ROOM : RattleType) (places : List (OutPlaceOf (BoundedSink (va
     → length got ≡ value_of ROOM
 place_full ROOM [] n got failed same = absurd (omega arith)
 place_full ROOM (output.Empty ∷ places) zero got failed same = absurd (omega arith)
+place_full ROOM (output.Retired sealed ∷ places) zero got failed same = absurd (omega arith)
 place_full ROOM (output.Live port number ∷ places) zero got failed same = full (value_of ROOM) port got failed same
 place_full ROOM (output.Dead sealed number ∷ places) zero got failed same = full (value_of ROOM) sealed.port got failed same
 place_full ROOM (place ∷ places) (suc n) got failed same = place_full ROOM places n got failed same

@@ -75,6 +75,7 @@ fn input_state<P>(place: &InPlaceOf<P>) -> &'static str {
 fn output_state<K>(place: &OutPlaceOf<K>) -> &'static str {
     match place {
         OutPlaceOf::Empty => "empty",
+        OutPlaceOf::Retired(..) => "empty",
         OutPlaceOf::Live(..) => "live",
         OutPlaceOf::Dead(..) => "dead",
     }

@@ -81,6 +81,7 @@ fn is_empty<K: Sink>(place: &OutPlaceOf<K>) -> bool
 {
     match place {
         OutPlaceOf::Empty => true,
+        OutPlaceOf::Retired(..) => true,
         OutPlaceOf::Live(..) => false,
         OutPlaceOf::Dead(..) => false,
     }

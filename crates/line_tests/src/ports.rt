@@ -32,6 +32,7 @@ fn taken<P>(place: &InPlaceOf<P>) -> u64 {
 fn went<K>(place: &OutPlaceOf<K>) -> u64 {
     match place {
         OutPlaceOf::Empty => 0,
+        OutPlaceOf::Retired(..) => 0,
         OutPlaceOf::Live(_, number) => *number,
         OutPlaceOf::Dead(_, number) => *number,
     }

@@ -20,6 +20,7 @@ places rack = bays_view source.ghosts sink.ghosts rack
 abbrev pub kept_at : OutPlaceOf FilledSink → List ℕ
 kept_at output.Empty = []
 kept_at (output.Live port number) = filled_kept port
+kept_at (output.Retired sealed) = []
 kept_at (output.Dead sealed number) = []
 
 abbrev pub line_kept : Rack FilledSource FilledSink → (b : ℕ) → List ℕ

@@ -62,6 +62,7 @@ fn number_of(place: &OutPlaceOf<FilledSink>) -> u64
 {
     match place {
         OutPlaceOf::Empty => 0,
+        OutPlaceOf::Retired(..) => 0,
         OutPlaceOf::Live(_, number) => *number,
         OutPlaceOf::Dead(_, number) => *number,
     }
@@ -102,6 +103,7 @@ fn keeps_since(place: &OutPlaceOf<FilledSink>, sent: u64) -> bool
 {
     match place {
         OutPlaceOf::Empty => true,
+        OutPlaceOf::Retired(..) => true,
         OutPlaceOf::Live(sink, number) => is_sum(sent, sink.kept_bytes().len() as u64, *number),
         OutPlaceOf::Dead(..) => false,
     }

@@ -144,6 +144,7 @@ fn kept(place: &OutPlaceOf<FilledSink>) -> &[u8]
     match place {
         OutPlaceOf::Live(sink, _) => sink.kept_bytes(),
         OutPlaceOf::Empty => &[],
+        OutPlaceOf::Retired(..) => &[],
         OutPlaceOf::Dead(..) => &[],
     }
 }
@@ -178,6 +179,7 @@ fn let_go(place: &mut OutPlaceOf<FilledSink>)
     match place {
         OutPlaceOf::Live(sink, _) => sink.let_go(),
         OutPlaceOf::Empty => {}
+        OutPlaceOf::Retired(..) => {}
         OutPlaceOf::Dead(..) => {}
     }
 }

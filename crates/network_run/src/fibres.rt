@@ -84,6 +84,7 @@ fn waiting_at<K: Sink>(
         OutPlaceOf::Live(NetOut::Fibre(sink), _) => waiting_in(sink, mark, frames),
         OutPlaceOf::Live(NetOut::Edge(_), _) => None,
         OutPlaceOf::Empty => None,
+        OutPlaceOf::Retired(..) => None,
         OutPlaceOf::Dead(..) => None,
     }
 }

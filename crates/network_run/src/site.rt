@@ -77,6 +77,7 @@ fn let_go_line<K: Sink>(place: &mut OutPlaceOf<NetOut<K>>)
     match place {
         OutPlaceOf::Live(port, _) => let_go_port(port),
         OutPlaceOf::Empty => {}
+        OutPlaceOf::Retired(..) => {}
         OutPlaceOf::Dead(..) => {}
     }
 }

@@ -1,11 +1,12 @@
 -- What went to the outputs of a run is what its connections put through, and carries what they carried.
-use Rattle.std.proofs.Common.{true, false, ◌≡◌, ◌≢◌, ◌<◌, ◌≤◌, ◌+◌, ◌-◌, ◌*◌, ℕ, Bool, List, ◌∷◌, length, refl, sym, ap, ◌∙◌, subst, arith}
+use Rattle.std.proofs.Common.{true, false, ◌≡◌, ◌≢◌, ◌<◌, ◌≤◌, ◌+◌, ◌-◌, ◌*◌, ℕ, Bool, List, ◌∷◌, Option, length, refl, sym, ap, ◌∙◌, subst, inl, inr, arith}
 use Rattle.std.specs.List.{Contains, concat}
 use Rattle.std.proofs.Math.Nat.{mul-le-mul_left}
 use Rattle.std.proofs.lemmas.Option.{slice_get_read}
 use Rattle.std.specs.Prelude.{slice_get, Some}
 use Rattle.otn_base.specs.LineSlots.{LineSlots}
-use Rattle.port_base.specs.Retiring.{retired_out_as}
+use Rattle.port_base.specs.Given.{IsTold}
+use Rattle.port_base.specs.Retiring.{told_by, retired_out_as}
 use Rattle.port_base.specs.Views.{State, Empty, Live, Dead, OutView, line_out_at, client_out_at}
 use Rattle.packet_text.specs.PacketText.{hex_text}
 use Rattle.line_side.specs.LineForm.{size_of, through_mask}
@@ -38,15 +39,20 @@ use Rattle.run_laws.proofs.RunsAlike.{all_of, lived_on, sound_in, client_left, t
 
 -- ---- outputs
 
--- a place that is not empty behind its connection's stop is as it was before
-kept_by : (was : OutView) (state : State) → was.state ≡ state → (retired_out_as state was).state ≢ Empty → retired_out_as state was ≡ was
-kept_by was Live e some = absurd (some refl)
-kept_by was Empty e some = refl
-kept_by was Dead e some = refl
+-- what a place's port got is told behind its connection's stop as before, where it is told at all
+told_same : (keeps : Bool) (got : Option (List ℕ)) → keeps ≡ true → told_by keeps got ≡ got
+told_same true got e = refl
+told_same false got e = absurd (cc)
 
-kept_out : (retires : Bool) (was last : OutView) → last ≡ out_after_retire retires was → last.state ≢ Empty → last ≡ was
-kept_out false was last place some = place
-kept_out true was last place some = place ∙ kept_by was was.state refl (λ e. some (ap (λ v. v.state) place ∙ e))
+kept_by : (was : OutView) (state : State) → IsTold (retired_out_as state was) → (retired_out_as state was).got ≡ was.got
+kept_by was Live (inl some) = absurd (some refl)
+kept_by was Live (inr keeps) = told_same was.keeps was.got keeps
+kept_by was Empty told = refl
+kept_by was Dead told = refl
+
+kept_out : (retires : Bool) (was last : OutView) → last ≡ out_after_retire retires was → IsTold last → last.got ≡ was.got
+kept_out false was last place told = ap (λ v. v.got) place
+kept_out true was last place told = ap (λ v. v.got) place ∙ kept_by was was.state (subst IsTold place told)
 
 client_front : (world : World) (x : Connection) (n : ℕ) (is : IsWorld world) → Contains world.plan.connections x → x.to ≡ to_end.Client n
     → IsFrontOf (client_out_at world.first n) (client_out_at world.last n) (text_by x (own_input world.inputs x) (x.stop - first_turn x)) ((bytes_out world is).client n)
@@ -59,7 +65,7 @@ client_front world x n is has to =
           let not : l.was.state ≢ Dead = λ dead. lived.is (ap (λ v. v.state) l.place ∙ dead_stays x.retire l.was dead) in
           l.left.whole (lived_on (client_out_at world.first n) l.was l.left.gained.state lived.was not);
       idle = λ not. (l.left.gained.idle not).1;
-      got = λ live some. ap (λ v. v.got) (kept_out x.retire l.was (client_out_at world.last n) l.place some) ∙ l.left.gained.sends.got;
+      got = λ live told. kept_out x.retire l.was (client_out_at world.last n) l.place told ∙ l.left.gained.sends.got;
     }
 
 no_more : (n : ℕ) → n + 0 ≡ n

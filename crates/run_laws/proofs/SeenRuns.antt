@@ -1,5 +1,5 @@
 -- What runs leave on a connection, by what is seen of the places before and after.
-use Rattle.std.proofs.Common.{◌≡◌, ◌<◌, ◌≤◌, ◌+◌, ◌-◌, ◌*◌, ◌/◌, ◌%◌, ◌&&◌, ℕ, Bool, true, false, List, [], ◌∷◌, ◌++◌, length, Option, Some, refl, sym, ap, ◌∙◌, subst, arith, append-nil, ◌==◌, if◌then◌else◌}
+use Rattle.std.proofs.Common.{◌≡◌, ◌<◌, ◌≤◌, ◌+◌, ◌-◌, ◌*◌, ◌/◌, ◌%◌, ◌&&◌, ℕ, Bool, true, false, List, [], ◌∷◌, ◌++◌, length, Option, Some, refl, sym, ap, ◌∙◌, subst, inl, inr, arith, append-nil, ◌==◌, if◌then◌else◌}
 use Rattle.std.specs.List.{concat, list_any, Contains}
 use Rattle.std.proofs.lemmas.Bool.{and_parts}
 use Rattle.std.proofs.lemmas.Bool.Decides.{nat_tests}
@@ -60,15 +60,16 @@ grew_by first last written left e k =
     append_cancel_left k.before written left
     (of_one (k.before ++ written) (k.before ++ left) (sym k.has ∙ e ∙ ap (λ got. after got left) k.had))
 
-by_states : (was is : State) (first last : OutView) (all left written : List ℕ) → first.state ≡ was → last.state ≡ is → IsFrontOf first last all left → written_between was is first.got last.got written → written ≡ left
-by_states Live Live first last all left written f l front k = grew_by first.got last.got written left (front.got f (λ e. cc)) k
-by_states Live Dead first last all left written f l front k = grew_by first.got last.got written left (front.got f (λ e. cc)) k
-by_states Live Empty first last all left written f l front k = absurd k
-by_states Empty is first last all left written f l front k = k ∙ sym (front.idle (λ e. cc))
-by_states Dead is first last all left written f l front k = k ∙ sym (front.idle (λ e. cc))
+by_states : (was is : State) (keeps : Bool) (first last : OutView) (all left written : List ℕ) → first.state ≡ was → last.state ≡ is → last.keeps ≡ keeps → IsFrontOf first last all left → written_between was is keeps first.got last.got written → written ≡ left
+by_states Live Live keeps first last all left written f l h front k = grew_by first.got last.got written left (front.got f (inl (λ e. cc))) k
+by_states Live Dead keeps first last all left written f l h front k = grew_by first.got last.got written left (front.got f (inl (λ e. cc))) k
+by_states Live Empty true first last all left written f l h front k = grew_by first.got last.got written left (front.got f (inr h)) k
+by_states Live Empty false first last all left written f l h front k = absurd k
+by_states Empty is keeps first last all left written f l h front k = k ∙ sym (front.idle (λ e. cc))
+by_states Dead is keeps first last all left written f l h front k = k ∙ sym (front.idle (λ e. cc))
 
 pub got_is : (first last : OutView) (all left written : List ℕ) → IsFrontOf first last all left → IsWritten first last written → written ≡ left
-got_is first last all left written front k = by_states first.state last.state first last all left written refl refl front k
+got_is first last all left written front k = by_states first.state last.state last.keeps first last all left written refl refl refl front k
 
 -- ---- what the inputs may have been
 

@@ -53,8 +53,8 @@ pub record ShareOne (one other : World) (x : Connection) : Type 0 where
 abbrev pub IsFrontOfOther : (one other : List ℕ) → Type 0
 IsFrontOfOther one other = ((rest : List ℕ) × (one ++ rest ≡ other)) ⊎ ((rest : List ℕ) × (other ++ rest ≡ one))
 
--- a place was live and has not died: it is live, or was emptied when its connection retired (what went there
--- `ClientGot` does not tell then)
+-- a place was live and has not died: it is live, or was retired with its connection (what went there `ClientGot` then
+-- tells where its port keeps it)
 pub record HasLived (first last : State) : Type 0 where
   pub was : first ≡ Live
   pub is : last ≢ Dead

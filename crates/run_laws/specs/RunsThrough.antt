@@ -4,6 +4,7 @@ use Rattle.std.specs.Prelude.{◌≡◌, ◌≢◌, ℕ, ◌+◌, ◌-◌, ◌*�
 use Rattle.std.specs.List.{concat, Contains}
 use Rattle.otn_base.specs.LineSlots.{LineSlots}
 use Rattle.port_base.specs.Bytes.{after}
+use Rattle.port_base.specs.Given.{IsTold}
 use Rattle.port_base.specs.Views.{State, Empty, Live, OutView, BaysView, line_out_at, client_out_at}
 use Rattle.packet_text.specs.PacketText.{hex_text}
 use Rattle.line_side.specs.LineForm.{size_of, through_mask}
@@ -33,13 +34,14 @@ abbrev pub LivedIn : World → (place : BaysView → State) → Type 0
 LivedIn world place = HasLived (place world.first) (place world.last)
 
 -- A part of this, from the front, went to an output place; all of it where the place has lived, and nothing where it
--- was not live. By that what its port got grew, where it is still in its place.
+-- was not live. By that what its port got grew, where that is told: the port is still in its place, or was retired and
+-- keeps it.
 pub record IsFrontOf (first last : OutView) (all written : List ℕ) : Type 0 where
   pub rest : List ℕ
   pub parts : written ++ rest ≡ all
   pub whole : HasLived first.state last.state → rest ≡ []
   pub idle : first.state ≢ Live → written ≡ []
-  pub got : first.state ≡ Live → last.state ≢ Empty → last.got ≡ after first.got written
+  pub got : first.state ≡ Live → IsTold last → last.got ≡ after first.got written
 
 -- so much of the file of a line
 pub record FileWent (world : World) (b : ℕ) (written : List ℕ) : Type 0 where

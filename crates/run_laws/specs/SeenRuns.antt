@@ -86,7 +86,7 @@ pub record ShareInput (one other : Run) (x : Connection) : Type 0 where
 -- ---- what its own output got
 
 -- these bytes went to output line b, and to client n, by which what their ports got grew; no bytes are these where a
--- client's place was retired
+-- client's place was retired whose port does not keep them
 abbrev pub LineGot : Run → (b : ℕ) → (written : List ℕ) → Type 0
 LineGot run b written = IsWritten (line_out_at run.before b) (line_out_at run.after b) written
 

@@ -57,6 +57,7 @@ fn out_word<O: Sink>(place: &OutPlaceOf<O>) -> &'static str
 {
     match place {
         OutPlaceOf::Empty => "empty",
+        OutPlaceOf::Retired(..) => "empty",
         OutPlaceOf::Live(..) => "live",
         OutPlaceOf::Dead(..) => "dead",
     }

@@ -1,5 +1,5 @@
 -- A network that is stepped stands at each moment, and has run in the end.
-use Rattle.std.proofs.Common.{◌≡◌, ◌≢◌, ◌<◌, inl, inr, ℕ, true, List, [], ◌++◌, Option, None, Some, length, get_or, refl, sym, ap, ◌∙◌, subst, append-nil, append_assoc, arith}
+use Rattle.std.proofs.Common.{◌≡◌, ◌≢◌, ◌<◌, inl, inr, ℕ, Bool, true, List, [], ◌++◌, Option, None, Some, length, get_or, refl, sym, ap, ◌∙◌, subst, append-nil, append_assoc, arith}
 use Rattle.std.specs.Prelude.{slice_get, option_map}
 use Rattle.std.specs.List.{Contains}
 use Rattle.std.proofs.lemmas.Bool.Decides.{eqb_tells}
@@ -257,13 +257,13 @@ hands_keep_it network f more rest old new net has stands waits filled = record {
 
 -- ---- the end
 
-written_by : (was is : State) (first now : Option (List ℕ)) (bytes : List ℕ) → was ≡ Live → is ≢ Empty → Grew first now bytes
-    → written_between was is first now bytes
-written_by Live Live first now bytes a b grew = grew
-written_by Live Dead first now bytes a b grew = grew
-written_by Live Empty first now bytes a b grew = absurd (b refl)
-written_by Empty is first now bytes a b grew = absurd (cc)
-written_by Dead is first now bytes a b grew = absurd (cc)
+written_by : (was is : State) (keeps : Bool) (first now : Option (List ℕ)) (bytes : List ℕ) → was ≡ Live → is ≢ Empty → Grew first now bytes
+    → written_between was is keeps first now bytes
+written_by Live Live keeps first now bytes a b grew = grew
+written_by Live Dead keeps first now bytes a b grew = grew
+written_by Live Empty keeps first now bytes a b grew = absurd (b refl)
+written_by Empty is keeps first now bytes a b grew = absurd (cc)
+written_by Dead is keeps first now bytes a b grew = absurd (cc)
 
 given_by : (was is : State) (first now : Option (List ℕ)) (bytes : List ℕ) → was ≡ Live → is ≡ Live → first ≡ Some bytes → given_between was is first now bytes
 given_by Live Live first now bytes a b told = told
@@ -331,7 +331,7 @@ ends_as_a_run network states run net stands ended = (
           form = form;
           written = h.handed ++ h.waiting;
           went = written_by (line_out_at (run f.here).before f.out).state (line_out_at (run f.here).after f.out).state
-              (line_out_at (run f.here).before f.out).got (line_out_at (run f.here).after f.out).got (h.handed ++ h.waiting) l.out_was l.out_is grew;
+              (line_out_at (run f.here).after f.out).keeps (line_out_at (run f.here).before f.out).got (line_out_at (run f.here).after f.out).got (h.handed ++ h.waiting) l.out_was l.out_is grew;
           brought = h.handed;
           came = given_by (line_in_at (run f.there).before f.into).state (line_in_at (run f.there).after f.into).state
               (line_in_at (run f.there).before f.into).left (line_in_at (run f.there).after f.into).left h.handed l.in_was l.in_is told;

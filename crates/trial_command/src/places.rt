@@ -106,6 +106,7 @@ pub(crate) fn file_of(bays: Memories<FileSink>, line: u8) -> Vec<u8>
     match mem::replace(bays.line_out_mut(line), OutPlaceOf::Empty) {
         OutPlaceOf::Live(sink, _) => sink.into_bytes(),
         OutPlaceOf::Empty => unreachable!(),
+        OutPlaceOf::Retired(..) => unreachable!(),
         OutPlaceOf::Dead(..) => unreachable!(),
     }
 }
@@ -118,6 +119,7 @@ pub(crate) fn text_of(place: &OutPlaceOf<TextSink>) -> &[u8]
     match place {
         OutPlaceOf::Live(sink, _) => sink.bytes(),
         OutPlaceOf::Empty => unreachable!(),
+        OutPlaceOf::Retired(..) => unreachable!(),
         OutPlaceOf::Dead(..) => unreachable!(),
     }
 }
