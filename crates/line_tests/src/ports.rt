@@ -93,6 +93,25 @@ fn a_sink_runs_out_of_room_in_mid_write(rt: HostRuntime) -> Result<(), Fail> {
     Ok(())
 }
 
+#[test]
+fn a_retired_sink_keeps_what_it_got(rt: HostRuntime) -> Result<(), Fail> {
+    let mut place = OutPlaceOf::Live(MemSink::with_room(rt.alloc(), 10)?, 0);
+    let before = place.write_all(&[1, 2, 3, 4]);
+    place.retire();
+    let after = place.write_all(&[5, 6]);
+    place.retire();
+    assert_eq!(rt;
+        (before, after, went(&place), place.kept()),
+        (
+            Written::Whole,
+            Written::Whole,
+            0,
+            Some([1, 2, 3, 4].as_slice())
+        )
+    );
+    Ok(())
+}
+
 // Five where five bytes more were read or written.
 fn five(more: bool) -> u64
     ensures { result ≤ 5 }

@@ -19,8 +19,9 @@ pub fn run_of_text()
 /// one turn more. To a client went what its own entry puts through it of what its own port gave, to a line the file of
 /// what the ports of all entries that go there gave (`through`). Where its bytes come unharmed they leave the same
 /// (`carried`): on a line three turns later, and of packets exactly those that came whole. The two ports are to tell
-/// their bytes; of all others nothing is asked, and no client place that was retired shows what went to it
-/// (`headline_of_any_inputs` speaks of these too). A place that the plan does not use is as it was (`others`).
+/// their bytes; of all others nothing is asked. A client place that was retired shows what went to it where its port
+/// keeps it, as one in memory does (`headline_of_any_inputs` speaks of those too that show nothing). A place that the
+/// plan does not use is as it was (`others`).
 pub fn headline()
     ensures runs { IsOfAPlan }
     ensures plan { HasCarriedIt }

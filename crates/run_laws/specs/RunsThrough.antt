@@ -5,7 +5,7 @@ use Rattle.std.specs.List.{concat, Contains}
 use Rattle.otn_base.specs.LineSlots.{LineSlots}
 use Rattle.port_base.specs.Bytes.{after}
 use Rattle.port_base.specs.Given.{IsTold}
-use Rattle.port_base.specs.Views.{State, Empty, Live, OutView, BaysView, line_out_at, client_out_at}
+use Rattle.port_base.specs.Views.{State, Live, OutView, BaysView, line_out_at, client_out_at}
 use Rattle.packet_text.specs.PacketText.{hex_text}
 use Rattle.line_side.specs.LineForm.{size_of, through_mask}
 use Rattle.maintenance_signals.specs.Stream.{signal_bytes}
