@@ -1,5 +1,5 @@
 -- What places gave and got, from one moment to the next, adds up.
-use Rattle.std.proofs.Common.{◌^◌, ◌<◌, ◌-◌, ◌≡◌, ◌≢◌, ◌≤◌, ◌+◌, ◌∙◌, ℕ, true, List, [], ◌∷◌, ◌++◌, Option, Some, None, length, take, arith, refl, sym, ap, inl, inr, append-nil, length-append}
+use Rattle.std.proofs.Common.{◌^◌, ◌<◌, ◌-◌, ◌≡◌, ◌≢◌, ◌≤◌, ◌+◌, ◌∙◌, ℕ, Bool, true, false, List, [], ◌∷◌, ◌++◌, Option, Some, None, length, take, arith, refl, sym, ap, inl, inr, append-nil, length-append}
 use Rattle.std.proofs.lemmas.List.{append_cancel_left, append_cancel_right}
 use Rattle.std.specs.Prelude.{unwrap_or}
 use Rattle.port_base.specs.Bytes.{before, after, HasFailed, raised}
@@ -230,16 +230,17 @@ given_of_gave first now bytes available h k = beyond first.state now.state first
 grew : (first now : Option (List ℕ)) (bytes gone : List ℕ) → now ≡ after first bytes → Grew first now gone → gone ≡ bytes
 grew first now bytes gone e k = append_cancel_left k.before gone bytes (some_same (k.before ++ gone) (k.before ++ bytes) (sym k.has ∙ e ∙ ap (λ got. after got bytes) k.had))
 
-sent : (s t : State) (first now : Option (List ℕ)) (bytes gone : List ℕ) → now ≡ after first bytes → (s ≢ Live → bytes ≡ []) → written_between s t first now gone → gone ≡ bytes
-sent Live Live first now bytes gone e idle k = grew first now bytes gone e k
-sent Live Dead first now bytes gone e idle k = grew first now bytes gone e k
-sent Live Empty first now bytes gone e idle k = absurd k
-sent Empty t first now bytes gone e idle k = k ∙ sym (idle empty_not_live)
-sent Dead t first now bytes gone e idle k = k ∙ sym (idle dead_not_live)
+sent : (s t : State) (keeps : Bool) (first now : Option (List ℕ)) (bytes gone : List ℕ) → now ≡ after first bytes → (s ≢ Live → bytes ≡ []) → written_between s t keeps first now gone → gone ≡ bytes
+sent Live Live keeps first now bytes gone e idle k = grew first now bytes gone e k
+sent Live Dead keeps first now bytes gone e idle k = grew first now bytes gone e k
+sent Live Empty false first now bytes gone e idle k = absurd k
+sent Live Empty true first now bytes gone e idle k = grew first now bytes gone e k
+sent Empty t keeps first now bytes gone e idle k = k ∙ sym (idle empty_not_live)
+sent Dead t keeps first now bytes gone e idle k = k ∙ sym (idle dead_not_live)
 
 -- Gone is what went to the place
 pub gone_of_gained : (first now : OutView) (bytes gone : List ℕ) → Gained first bytes now → IsWritten first now gone → gone ≡ bytes
-gone_of_gained first now bytes gone h k = sent first.state now.state first.got now.got bytes gone h.sends.got (λ idle. (h.idle idle).1) k
+gone_of_gained first now bytes gone h k = sent first.state now.state now.keeps first.got now.got bytes gone h.sends.got (λ idle. (h.idle idle).1) k
 
 -- below the end of the number, a place counts exactly the bytes
 pub raised-below : (n k m : ℕ) → m ≡ raised n k → m < 2 ^ 64 - 1 → m ≡ n + k

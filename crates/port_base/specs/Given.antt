@@ -1,5 +1,5 @@
 -- Believed: what a place gave, and what went to it, between two moments.
-use Rattle.std.specs.Prelude.{◌≡◌, ◌≢◌, ◌⊎◌, ℕ, List, [], ◌++◌, Option, Some}
+use Rattle.std.specs.Prelude.{◌≡◌, ◌≢◌, ◌⊎◌, ℕ, Bool, true, false, List, [], ◌++◌, Option, Some}
 use Rattle.port_base.specs.Bytes.{HasFailed}
 use Rattle.port_base.specs.Reads.{Takes}
 use Rattle.port_base.specs.Writes.{Sends}
@@ -32,19 +32,24 @@ pub record Grew (first now : Option (List ℕ)) (bytes : List ℕ) : Type 0 wher
   pub had : first ≡ Some before
   pub has : now ≡ Some (before ++ bytes)
 
--- what went to an output place between two of its states, and between what its sink had got and has got
-abbrev pub written_between : State → State → Option (List ℕ) → Option (List ℕ) → List ℕ → Type 0
--- where its port is no more in the place, what that got is not told
-written_between Live Empty first now bytes = ⊥
--- where it was live, by so much what it got grew
-written_between Live state first now bytes = Grew first now bytes
+-- what an output place's port got is told: it is in its place, or it was retired there and keeps what it got
+abbrev pub IsTold : OutView → Type 0
+IsTold place = (place.state ≢ Empty) ⊎ (place.keeps ≡ true)
+
+-- what went to an output place between two of its states, the later of which keeps what its port got or does not, and
+-- between what its sink had got and has got
+abbrev pub written_between : State → State → (keeps : Bool) → Option (List ℕ) → Option (List ℕ) → List ℕ → Type 0
+-- where its port is gone, what that got is not told
+written_between Live Empty false first now bytes = ⊥
+-- where it was live, by so much what it got grew, also of one that was retired and keeps it
+written_between Live state keeps first now bytes = Grew first now bytes
 -- where it was not live, by nothing
-written_between other state first now bytes = bytes ≡ []
+written_between other state keeps first now bytes = bytes ≡ []
 
 -- Gone: these are the bytes by which what an output place got grew from its opening view to its
 -- closing one, which is said of a sink that tells its bytes
 abbrev pub IsWritten : OutView → OutView → List ℕ → Type 0
-IsWritten first now bytes = written_between first.state now.state first.got now.got bytes
+IsWritten first now bytes = written_between first.state now.state now.keeps first.got now.got bytes
 
 -- a place is as live as it was, and its port's count of faults is as it was; or it was live and died by its own port's
 -- fault

@@ -26,7 +26,8 @@ pub record InView : Type 0 where
 
 -- a place for an output: how it stands, whether its port is behind a box, the bytes that it got
 -- where its port tells them, whether it gives them back, its port's count of faults, and the
--- place's number of bytes sent
+-- place's number of bytes sent. A place whose port is retired is seen as one with no port, but for the bytes that
+-- the port keeps.
 pub record OutView : Type 0 where
   pub state : State
   pub boxed : Bool

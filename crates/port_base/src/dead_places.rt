@@ -24,6 +24,7 @@ pub fn is_dead_out<K: Sink>(place: &OutPlaceOf<K>) -> bool
     match place {
         OutPlaceOf::Dead(..) => true,
         OutPlaceOf::Live(..) => false,
+        OutPlaceOf::Retired(..) => false,
         OutPlaceOf::Empty => false,
     }
 }

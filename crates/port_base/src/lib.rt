@@ -4,7 +4,7 @@
 //! - `mem_source`, `mem_sink`: ports in memory.
 //! - `in_port`, `out_port`: a port behind a box, or one in memory.
 //! - `in_place`, `out_place`: a place with its port, which reads and writes whole slices; `sealed`: the port of a dead
-//!   one.
+//!   or a retired one.
 //! - `dead_places`: whether a place is dead.
 //! - `asking`: a place is asked for one byte more.
 //! - `fill`, `drain`: a whole read of a source, and a whole write to a sink, that stand in no place.

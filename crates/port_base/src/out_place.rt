@@ -1,8 +1,9 @@
-// A place for an output: it is empty, its port is live, or its port has failed and is called no more.
+// A place for an output: it is empty, its port is live, its port is retired and keeps what it got, or its port has
+// failed and is called no more.
 ghost use Rattle.std.specs.Prelude.{◌≡◌, ◌≢◌, true, false, Some, MatchOption, length, take};
 ghost use Rattle.port_base.specs.Given.{Gained};
-ghost use Rattle.port_base.specs.OutPlace.{dead_out};
-ghost use Rattle.port_base.specs.Retiring.{retired_out};
+ghost use Rattle.port_base.specs.OutPlace.{dead_out, out_view};
+ghost use Rattle.port_base.specs.Retiring.{retired_out, retired_sink};
 ghost use Rattle.port_base.specs.Sent.{IsSent};
 ghost use Rattle.port_base.specs.Views.{Live, Dead};
 ghost use Rattle.port_base.specs.Writes.{Writes, IsWriting, state_after_write};
@@ -12,11 +13,13 @@ use crate::{OutPort, Sealed, Sink, Written};
 use std::mem;
 
 /// A place for a sink. The number counts the bytes sent to it, and stops at 2^64-1. A dead place
-/// is made by `dead`, and its port is out of reach.
+/// is made by `dead`, and its port is out of reach. A retired place is made by `retire`, of a port that keeps what it
+/// got: it acts as an empty one, and hands out those bytes.
 #[derive(Drop)]
 pub enum OutPlaceOf<K> {
     Empty,
     Live(K, u64),
+    Retired(Sealed<K>),
     Dead(Sealed<K>, u64),
 }
 
@@ -24,8 +27,6 @@ pub enum OutPlaceOf<K> {
 pub type OutPlace = OutPlaceOf<OutPort>;
 
 impl<K: Sink> OutPlaceOf<K> {
-    ghost use Rattle.port_base.specs.OutPlace.{out_view};
-
     /// A dead place with this port, to which so many bytes were sent.
     pub fn dead(port: K, number: u64) -> OutPlaceOf<K>
         ensures { out_view K.Sink result ≡ dead_out K.Sink port number }
@@ -51,6 +52,7 @@ impl<K: Sink> OutPlaceOf<K> {
         let ending = match self {
             OutPlaceOf::Live(port, number) => drain_counted(port, number, bytes),
             OutPlaceOf::Empty => return Written::Whole,
+            OutPlaceOf::Retired(..) => return Written::Whole,
             OutPlaceOf::Dead(..) => return Written::Whole,
         };
         if ending == Written::Lost {
@@ -78,6 +80,7 @@ impl<K: Sink> OutPlaceOf<K> {
         let (answer, written) = match self {
             OutPlaceOf::Live(port, number) => lines_counted(port, number, lines),
             OutPlaceOf::Empty => return (Written::Whole, 0),
+            OutPlaceOf::Retired(..) => return (Written::Whole, 0),
             OutPlaceOf::Dead(..) => return (Written::Whole, 0),
         };
         if answer == Written::Lost {
@@ -105,6 +108,7 @@ impl<K: Sink> OutPlaceOf<K> {
         let (answer, written) = match self {
             OutPlaceOf::Live(port, number) => frames_counted(port, number, frames),
             OutPlaceOf::Empty => return (Written::Whole, 0),
+            OutPlaceOf::Retired(..) => return (Written::Whole, 0),
             OutPlaceOf::Dead(..) => return (Written::Whole, 0),
         };
         if answer == Written::Lost {
@@ -113,19 +117,21 @@ impl<K: Sink> OutPlaceOf<K> {
         (answer, written)
     }
 
-    /// A live place becomes empty, and its port is dropped. An empty or a dead place stays.
+    /// A live place becomes a retired one, where its port keeps what it got, and else an empty one, whose port is
+    /// dropped. A place that is not live stays.
     pub fn retire(&mut self)
         ensures retired { out_view K.Sink self.new ≡ retired_out (out_view K.Sink self.old) }
+        ensures dropped { (out_view K.Sink self.old).state ≡ Live → (out_view K.Sink self.old).keeps ≡ false
+            → self.new ≡ OutPlaceOf.Empty }
         ensures idle { (out_view K.Sink self.old).state ≢ Live → self.new ≡ self.old }
     {
-        match self {
-            OutPlaceOf::Live(..) => *self = OutPlaceOf::Empty,
-            OutPlaceOf::Empty => {}
-            OutPlaceOf::Dead(..) => {}
+        match mem::replace(self, OutPlaceOf::Empty) {
+            OutPlaceOf::Live(port, _) => *self = retired(port),
+            place => *self = place,
         }
     }
 
-    /// What the place's port got, where it keeps it: of a live place as of a dead one. An empty
+    /// What the place's port got, where it keeps it: of a live place as of a dead or a retired one. An empty
     /// place keeps nothing.
     pub fn kept(&self) -> Option<&[u8]>
         ensures { MatchOption result ((out_view K.Sink self.now).keeps ≡ false)
@@ -134,6 +140,7 @@ impl<K: Sink> OutPlaceOf<K> {
         match self {
             OutPlaceOf::Empty => None,
             OutPlaceOf::Live(port, _) => port.kept(),
+            OutPlaceOf::Retired(sealed) => sealed.port.kept(),
             OutPlaceOf::Dead(sealed, _) => sealed.port.kept(),
         }
     }
@@ -148,4 +155,15 @@ impl<K: Sink> OutPlaceOf<K> {
             place => *self = place,
         }
     }
+}
+
+// The place of a retired port: it stays there where it keeps what it got, and else it is dropped.
+fn retired<K: Sink>(port: K) -> OutPlaceOf<K>
+    ensures view { out_view K.Sink result ≡ retired_sink (K.keeps port) (K.got port) }
+    ensures dropped { K.keeps port ≡ false → result ≡ OutPlaceOf.Empty }
+{
+    if port.kept().is_none() {
+        return OutPlaceOf::Empty;
+    }
+    OutPlaceOf::Retired(Sealed { port })
 }
