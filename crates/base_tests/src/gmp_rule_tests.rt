@@ -7,28 +7,65 @@ use otn_base::limits::GROUPS;
 // The groups of a multiframe, in the type of the numbers here.
 const ALL: u32 = GROUPS as u32;
 
-// At each number: the stuff groups are those that leave this remainder by this divisor, or all others
-// do, and there are so many data groups.
-const CASES: [(u32, u32, u32, bool, u32); 5] = [
+// At C data groups the stuff groups are those whose number leaves this remainder by this divisor, or all others are.
+#[derive(Clone, Copy)]
+struct AtC {
+    c: u32,
+    divisor: u32,
+    remainder: u32,
+    listed_are_stuff: bool,
+}
+
+const CASES: [AtC; 5] = [
     // An ODU0 at its nominal rate: every 238th group is stuff, 64 in all.
-    (15_168, 238, 1, true, 15_168),
+    AtC {
+        c: 15_168,
+        divisor: 238,
+        remainder: 1,
+        listed_are_stuff: true,
+    },
     // One data group, the last.
-    (1, 15_232, 0, false, 1),
+    AtC {
+        c: 1,
+        divisor: 15_232,
+        remainder: 0,
+        listed_are_stuff: false,
+    },
     // One stuff group, the first.
-    (15_231, 15_232, 1, true, 15_231),
+    AtC {
+        c: 15_231,
+        divisor: 15_232,
+        remainder: 1,
+        listed_are_stuff: true,
+    },
     // No group is data, and all are.
-    (0, 1, 0, true, 0),
-    (15_232, 1, 0, false, 15_232),
+    AtC {
+        c: 0,
+        divisor: 1,
+        remainder: 0,
+        listed_are_stuff: true,
+    },
+    AtC {
+        c: 15_232,
+        divisor: 1,
+        remainder: 0,
+        listed_are_stuff: false,
+    },
 ];
 
 #[test]
 fn groups_of_known_numbers(rt: HostRuntime) {
-    for (c, divisor, remainder, stuff, count) in CASES {
+    for AtC {
+        c,
+        divisor,
+        remainder,
+        listed_are_stuff,
+    } in CASES {
         let mut runner = Runner::start(c.min(ALL));
         let mut data = 0u64;
         for j in 1..15_233u32 {
             let listed = j % divisor.max(1) == remainder;
-            let wanted = listed != stuff;
+            let wanted = listed != listed_are_stuff;
             if wanted {
                 data = data.saturating_add(1);
             }
@@ -40,7 +77,7 @@ fn groups_of_known_numbers(rt: HostRuntime) {
                 "group {j} at {c}"
             );
         }
-        assert_eq!(rt; data, count as u64, "all groups at {c}");
+        assert_eq!(rt; data, c as u64, "all groups at {c}");
     }
 }
 

@@ -45,24 +45,58 @@ fn ended(first: u8, taken: &[u8], kind: LineKind, n: u8) -> (bool, Option<u8>) {
     (whole, Some(phase.expected(n)))
 }
 
+// A turn of these MFAS bytes where the first was expected: whether it is whole, and the MFAS expected n frames after it.
+#[derive(Clone, Copy)]
+struct Case<'a> {
+    first: u8,
+    taken: &'a [u8],
+    n: u8,
+    whole: bool,
+    expected: Option<u8>,
+}
+
 #[test]
 fn ends_turns(rt: HostRuntime) {
-    let cases: [(u8, &[u8], u8, (bool, Option<u8>)); 4] = [
+    let cases = [
         // round at 256
-        (
-            248,
-            &[248, 249, 250, 251, 252, 253, 254, 255],
-            0,
-            (true, Some(0)),
-        ),
+        Case {
+            first: 248,
+            taken: &[248, 249, 250, 251, 252, 253, 254, 255],
+            n: 0,
+            whole: true,
+            expected: Some(0),
+        },
         // four are wrong, and five
-        (8, &[8, 9, 10, 11, 0, 0, 0, 0], 7, (true, Some(23))),
-        (8, &[8, 9, 10, 0, 0, 0, 0, 0], 0, (false, None)),
+        Case {
+            first: 8,
+            taken: &[8, 9, 10, 11, 0, 0, 0, 0],
+            n: 7,
+            whole: true,
+            expected: Some(23),
+        },
+        Case {
+            first: 8,
+            taken: &[8, 9, 10, 0, 0, 0, 0, 0],
+            n: 0,
+            whole: false,
+            expected: None,
+        },
         // cut short
-        (8, &[8, 9, 10, 11, 12, 13, 14], 0, (false, Some(8))),
+        Case {
+            first: 8,
+            taken: &[8, 9, 10, 11, 12, 13, 14],
+            n: 0,
+            whole: false,
+            expected: Some(8),
+        },
     ];
-    for (first, taken, n, wanted) in cases {
-        assert_eq!(rt; ended(first, taken, LineKind::Otu2, n), wanted, "{taken:?}");
+    for case in cases {
+        assert_eq!(rt;
+            ended(case.first, case.taken, LineKind::Otu2, case.n),
+            (case.whole, case.expected),
+            "{:?}",
+            case.taken
+        );
     }
 }
 

@@ -1,6 +1,11 @@
 //! The sides of a line of either kind, plain or scrambled. `LineIn` reads one: it finds the multiframes of its frames,
 //! one turn each. `UncountedLineIn` does the same and checks no overhead, so it has no numbers of it. `LineOut` makes
 //! a line, frame by frame, and writes it by eight frames.
+//!
+//! - `line_in`: an input line, turn by turn; `reader`: its frames, one after the other; `tried`: what a hunt makes of a
+//!   frame; `ending`: whether and how its bytes ended; `checks`, `counts`: what is counted of its overhead.
+//! - `line_out`: an output line; `waiting`: its frames that wait to be written.
+//! - `mask`: what the frames of a scrambled line go through; `laws`: laws of a line's bytes.
 #![tactic(auto)]
 
 mod checks;

@@ -1,4 +1,10 @@
 //! Packets as text: lines of hex digits, read from a place and written to one.
+//!
+//! - `packet_lines`: the packets of a text, one after another; `line`: what it answers.
+//! - `cutter`: a text is cut into lines; `block`: the bytes that were read last; `line_feed`: the end of a line;
+//!   `found`: what a line turned out to be.
+//! - `digits`, `pairs`, `lanes`: bytes out of hex digits: of a line, of pairs, of sixteen at a time.
+//! - `writing`: a packet's line; `byte_digits`: hex digits out of bytes; `laws`: laws of these texts.
 #![tactic(auto)]
 
 mod block;

@@ -98,43 +98,136 @@ fn emitted(alloc: Global, turns: &[u8], room: usize) -> Result<Vec<u8>, Memory> 
     Ok(bytes)
 }
 
+// A line for `pull` of this port and slot 3, whose report has so much room, and what is wanted: a status, and what is
+// emitted in these turns.
+#[derive(Clone, Copy)]
+struct Pull<'a> {
+    port: &'a str,
+    lead: &'a [u8],
+    frames: u32,
+    more: usize,
+    room: usize,
+    status: Status,
+    turns: &'a [u8],
+}
+
 #[test]
 fn pull_writes_what_the_sink_emits(rt: HostRuntime) -> Result<(), Fail> {
     let alloc = rt.alloc();
-    let all = 100_000;
     let again = [0, 1, 2, 3, 4, 5, 6, 7, 0, 1, 2, 3, 4, 5, 6, 7];
-    let cases: [(&str, &[u8], u32, usize, usize, Status, &[u8]); 19] = [
+    let done = Pull {
+        port: "1",
+        lead: &[],
+        frames: 0,
+        more: 0,
+        room: 100_000,
+        status: Status::Done,
+        turns: &[],
+    };
+    let part = Pull {
+        status: Status::Unfinished,
+        ..done
+    };
+    let full = Pull {
+        frames: 40,
+        status: Status::ReportFault,
+        ..done
+    };
+    let cases = [
         // Ends of the line.
-        ("1", &[], 0, 0, all, Status::Done, &[]),
-        ("1", &[], 0, 1, all, Status::Unfinished, &[]),
-        ("1", &[], 7, 0, all, Status::Done, &[]),
-        ("1", &[], 7, 1, all, Status::Unfinished, &[]),
-        ("1", &[], 8, 0, all, Status::Done, &[]),
-        ("1", &[], 11, 16_319, all, Status::Unfinished, &[]),
-        ("1", &[], 12, 0, all, Status::Done, &[]),
-        ("1", &[], 16, 0, all, Status::Done, &[2]),
-        ("1", &[], 27, 8000, all, Status::Unfinished, &[2, 3]),
-        ("1", &[], 40, 0, all, Status::Done, &[2, 3, 4, 5]),
+        done,
+        Pull { more: 1, ..part },
+        Pull { frames: 7, ..done },
+        Pull {
+            frames: 7,
+            more: 1,
+            ..part
+        },
+        Pull { frames: 8, ..done },
+        Pull {
+            frames: 11,
+            more: 16_319,
+            ..part
+        },
+        Pull { frames: 12, ..done },
+        Pull {
+            frames: 16,
+            turns: &[2],
+            ..done
+        },
+        Pull {
+            frames: 27,
+            more: 8000,
+            turns: &[2, 3],
+            ..part
+        },
+        Pull {
+            frames: 40,
+            turns: &[2, 3, 4, 5],
+            ..done
+        },
         // Hunts: AIS from the fourth turn on where none had a multiframe.
-        ("1", &[3; 7], 40, 0, all, Status::Done, &[2, 3, 4, 5]),
-        ("1", &[3; 32], 40, 0, all, Status::Done, &[0, 2, 3, 4, 5]),
-        ("1", &[3; 32], 0, 0, all, Status::Done, &[0, 0]),
-        ("1", &[3; 31], 0, 0, all, Status::Done, &[0]),
+        Pull {
+            lead: &[3; 7],
+            frames: 40,
+            turns: &[2, 3, 4, 5],
+            ..done
+        },
+        Pull {
+            lead: &[3; 32],
+            frames: 40,
+            turns: &[0, 2, 3, 4, 5],
+            ..done
+        },
+        Pull {
+            lead: &[3; 32],
+            turns: &[0, 0],
+            ..done
+        },
+        Pull {
+            lead: &[3; 31],
+            turns: &[0],
+            ..done
+        },
         // Two MSI bytes of port 1.
-        ("1", &again, 16, 0, all, Status::Done, &[2]),
-        ("2", &again, 16, 0, all, Status::Done, &[0, 0, 0]),
+        Pull {
+            lead: &again,
+            frames: 16,
+            turns: &[2],
+            ..done
+        },
+        Pull {
+            port: "2",
+            lead: &again,
+            frames: 16,
+            turns: &[0, 0, 0],
+            ..done
+        },
         // A report with too little room.
-        ("1", &[], 8, 0, 0, Status::Done, &[]),
-        ("1", &[], 40, 0, 20_000, Status::ReportFault, &[2, 3, 4, 5]),
-        ("1", &[], 40, 0, 0, Status::ReportFault, &[]),
+        Pull {
+            frames: 8,
+            room: 0,
+            ..done
+        },
+        Pull {
+            room: 20_000,
+            turns: &[2, 3, 4, 5],
+            ..full
+        },
+        Pull { room: 0, ..full },
     ];
-    for (port, lead, frames, more, room, status, turns) in cases {
-        let source = MemSource::new(line(alloc, None, lead, frames, more)?);
-        let answer = answered(alloc, port, source, turns, room)?;
+    for case in cases {
+        let source = MemSource::new(line(alloc, None, case.lead, case.frames, case.more)?);
+        let answer = answered(alloc, case.port, source, case.turns, case.room)?;
         assert_eq!(rt;
             answer,
-            (status, true, false),
-            "port {port}: {lead:?}, {frames} frames and {more} bytes into {room}"
+            (case.status, true, false),
+            "port {}: {:?}, {} frames and {} bytes into {}",
+            case.port,
+            case.lead,
+            case.frames,
+            case.more,
+            case.room
         );
     }
     Ok(())
@@ -174,6 +267,16 @@ fn pull_writes_the_same_from_any_frame_on(rt: HostRuntime) -> Result<(), Fail> {
     Ok(())
 }
 
+// A line of port 1 that fails at this call, into a report with so much room, and what is wanted of `pull`.
+#[derive(Clone, Copy)]
+struct Fails<'a> {
+    lead: &'a [u8],
+    call: u32,
+    room: usize,
+    status: Status,
+    turns: &'a [u8],
+}
+
 #[test]
 fn pull_ends_where_its_line_fails(rt: HostRuntime) -> Result<(), Fail> {
     let alloc = rt.alloc();
@@ -181,18 +284,45 @@ fn pull_ends_where_its_line_fails(rt: HostRuntime) -> Result<(), Fail> {
         3, 3, 3, 3, 3, 3, 3, 3, 3, 3, 3, 3, 3, 3, 3, 3, 3, 3, 3, 3, 3, 3, 3, 3, 3, 3, 3, 3, 3, 3,
         3, 8,
     ];
-    let cases: [(&[u8], u32, usize, Status, &[u8]); 5] = [
-        (&[], 1, 100_000, Status::Cut, &[]),
-        (&[], 12, 100_000, Status::Cut, &[]),
-        (&[], 20, 100_000, Status::Cut, &[2]),
-        (&[], 20, 0, Status::ReportFault, &[]),
+    let cut = Fails {
+        lead: &[],
+        call: 1,
+        room: 100_000,
+        status: Status::Cut,
+        turns: &[],
+    };
+    let cases = [
+        cut,
+        Fails { call: 12, ..cut },
+        Fails {
+            call: 20,
+            turns: &[2],
+            ..cut
+        },
+        Fails {
+            call: 20,
+            room: 0,
+            status: Status::ReportFault,
+            ..cut
+        },
         // The read that looks ahead: one more turn is done.
-        (ahead, 33, 100_000, Status::Cut, &[0, 0]),
+        Fails {
+            lead: ahead,
+            call: 33,
+            turns: &[0, 0],
+            ..cut
+        },
     ];
-    for (lead, call, room, status, turns) in cases {
-        let source = FailsAt::new(line(alloc, None, lead, 40, 0)?, call);
-        let answer = answered(alloc, "1", source, turns, room)?;
-        assert_eq!(rt; answer, (status, true, true), "at call {call} into {room}");
+    for case in cases {
+        let source = FailsAt::new(line(alloc, None, case.lead, 40, 0)?, case.call);
+        let answer = answered(alloc, "1", source, case.turns, case.room)?;
+        assert_eq!(rt;
+            answer,
+            (case.status, true, true),
+            "at call {} into {}",
+            case.call,
+            case.room
+        );
     }
     Ok(())
 }
