@@ -45,8 +45,8 @@ pub record NeverFails (now : BaysView) : Type 0 where
   pub client_in : (n : ℕ) → (client_in_at now n).faults ≡ 0
 
 -- The node and its places stand at a moment of the plan as they would if all that was handed in by now had been there
--- from the first, and no input has failed. Which moment it is, the node says, of which holds what holds of every node.
--- So all that is said of a node at a moment is said of this one, for whatever is handed in later.
+-- from the first, and no input has failed. Which moment it is, the node says. What holds of every node holds of it. So
+-- all that is said of a node at a moment is said of this one, for whatever is handed in later.
 pub record LiveStands (plan : Plan) (handed : InputBytes) (node : NodeView) (now : BaysView) : Type 0 where
   pub first : BaysView
   pub opens : OpensWith handed first
