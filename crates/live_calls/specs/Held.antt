@@ -43,7 +43,7 @@ pub record OpenedPlan (plan : Plan) (held : HeldNode) : Type 0 where
   pub turns : held.live.node.turns ≡ plan.turns
   pub past : held.live.node.past ≡ 0
   pub left : HaveLeft plan (inputs_of plan no_bytes) held.live.node (places_of held)
-  pub handed : KeepsAll held.live.node held.live.bays
+  pub handed : KeepsAll held.live.bays
   pub ended : held.ended ≡ None
 
 pub record Opened (text : List ℕ) (held : HeldNode) : Type 0 where
@@ -83,7 +83,7 @@ pub record GoesFrom (old new : HeldNode) : Type 0 where
 pub record TurnsOn (old new : HeldNode) : Type 0 where
   pub past : new.live.node.past ≡ old.live.node.past + 1
   pub served : AreServed new.live.node
-  pub handed : HandsOutSince old.live.node new.live.node (places_of old) new.live.bays
+  pub handed : HandsOutSince old.live.node (places_of old) new.live.bays
 
 -- ---- its report
 

@@ -6,7 +6,7 @@ use Rattle.std.proofs.lemmas.Grind.{common_steps}
 use Rattle.std.proofs.lemmas.List.{get_or-set_same, get_or-set_other}
 use Rattle.port_base.specs.Views.{Live, InView, BaysView, no_input, line_in_at, client_in_at}
 use Rattle.plan_file.specs.declared.plan.Plan.{Plan}
-use Rattle.node_moments.specs.NodeView.{NodeView}
+use Rattle.node_moments.specs.NodeView.{NodeView, IsNode}
 use Rattle.node_moments.specs.Stands.{InputBytes, StandsAt, Later}
 use Rattle.live_laws.specs.HandedIn.{grown, LineGrew, ClientGrew}
 use Rattle.live_laws.specs.Live.{holding, with_line, with_client, NeverFails, LiveStands}
@@ -69,6 +69,7 @@ live_line plan handed node a further now now_with few unended calm grew h =
           }
           grew h.stands;
       calm = calm;
+      is = h.is;
     }
 
 pub live_client : (plan : Plan) (handed : InputBytes) (node : NodeView) (n : ℕ) (further : List ℕ) (now now_with : BaysView) → n < 16
@@ -96,12 +97,13 @@ live_client plan handed node n further now now_with few unended calm grew h =
           }
           grew h.stands;
       calm = calm;
+      is = h.is;
     }
 
 -- a node that has gone on from whatever moment of whatever plan it stood at stands as a live one
 pub live_goes : (old new : NodeView) (was is : BaysView)
     → ((plan : Plan) (first : BaysView) (read : InputBytes) → StandsAt plan first read old was → Later plan first read old new is)
-    → NeverFails is → (plan : Plan) (handed : InputBytes) → LiveStands plan handed old was → LiveStands plan handed new is
-live_goes old new was is goes calm plan handed h =
+    → NeverFails is → IsNode new → (plan : Plan) (handed : InputBytes) → LiveStands plan handed old was → LiveStands plan handed new is
+live_goes old new was is goes calm node plan handed h =
     let later = goes plan h.first h.read h.stands in
-    record { first = h.first; opens = h.opens; read = later.more; stands = later.stands; calm = calm }
+    record { first = h.first; opens = h.opens; read = later.more; stands = later.stands; calm = calm; is = node }

@@ -66,7 +66,7 @@ entry plan x c = slice_get_read plan.connections (length plan.connections) c.0 x
 line_is_due : (plan : Plan) (live : LiveMoment) (b : ℕ) (bytes : List ℕ) → IsLive plan live → uses plan (port.LineOut b) ≡ true → LineGot live b bytes
     → LineDue plan (inputs_of plan live.handed) b (turns_of live) 0 bytes
 line_is_due plan live b bytes is used has =
-    let left = (live_turns plan live.handed live.node live.now is.stands is.served).line is.is b used in
+    let left = (live_turns plan live.handed live.node live.now is.stands is.served).line b used in
     subst (LineDue plan (inputs_of plan live.handed) b (turns_of live) 0) (sym (whole_sent left.0 bytes (line_out_at live.now b) left.2 has)) left.1
 
 pub text_is_due : (plan : Plan) (handed : InputBytes) (node : NodeView) (now : BaysView) (x : Connection) (n : ℕ) (bytes : List ℕ) → LiveStands plan handed node now

@@ -164,9 +164,9 @@ live_turns plan handed node now h served =
     let may : MayGive plan h.read node inputs = handed_may_give plan handed node now h in
     let p = h.stands.plan_stands in
     record {
-      line = λ is b used.
+      line = λ b used.
           let few = line_within b (used_within plan (port.LineOut b) p.accepted used) in
-          let line = element_at node.lines_out b (let four = is.lines_out in omega arith) in
+          let line = element_at node.lines_out b (let four = h.is.lines_out in omega arith) in
           let o = is_out plan h.first h.read node now (port.LineOut b) h.stands (served.line_out b few) used in
           let left = line_out plan h.first h.read node now inputs b line.0 h.stands may used line.1 o in
           subst (λ t. LineLeft plan inputs b t telling (line_out_at now b)) o.are

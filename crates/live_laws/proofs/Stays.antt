@@ -20,7 +20,7 @@ use Rattle.device_model.specs.Entries.{is_to_client}
 use Rattle.device_model.specs.Moments.{uses, touches, turns_done, is_retired, client_due}
 use Rattle.device_model.specs.Through.{OwnInput, own_input, got_in, got_by, arrived_by, text_by}
 use Rattle.run_laws.proofs.GivenRuns.{some_passes}
-use Rattle.node_moments.specs.NodeView.{NodeView, IsNode}
+use Rattle.node_moments.specs.NodeView.{NodeView}
 use Rattle.node_moments.specs.Stands.{InputBytes}
 use Rattle.live_laws.specs.Live.{telling, AreServed, LiveStands}
 use Rattle.live_laws.specs.LivePairs.{HasGot}
@@ -148,9 +148,9 @@ client_on plan handed old new was is n bytes others few h k served served_too la
 -- ---- the place of a line
 
 pub line_sent : (plan : Plan) (handed : InputBytes) (node : NodeView) (now : BaysView) (b : ℕ) → b < 4 → LiveStands plan handed node now
-    → AreServed node → IsNode node → (due : List ℕ) × IsSent telling due (line_out_at now b)
-line_sent plan handed node now b few h served is = by_use (uses plan (port.LineOut b)) refl
+    → AreServed node → (due : List ℕ) × IsSent telling due (line_out_at now b)
+line_sent plan handed node now b few h served = by_use (uses plan (port.LineOut b)) refl
   where
     by_use : (used : Bool) → uses plan (port.LineOut b) ≡ used → (due : List ℕ) × IsSent telling due (line_out_at now b)
     by_use false used = ([], nothing_sent (line_out_at now b) (ap output_of (h.stands.idle (port.LineOut b) used) ∙ h.opens.line_out b few))
-    by_use true used = (let left = (live_turns plan handed node now h served).line is b used in (left.0, left.2))
+    by_use true used = (let left = (live_turns plan handed node now h served).line b used in (left.0, left.2))

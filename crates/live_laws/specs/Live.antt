@@ -5,7 +5,7 @@ use Rattle.port_base.specs.Views.{Live, InView, OutView, BaysView, line_in_at, l
 use Rattle.plan_file.specs.declared.plan.Plan.{Plan}
 use Rattle.device_model.specs.Report.{Numbers}
 use Rattle.device_model.specs.RunLeft.{Takings, RunLeft}
-use Rattle.node_moments.specs.NodeView.{NodeView, is_ready}
+use Rattle.node_moments.specs.NodeView.{NodeView, IsNode, is_ready}
 use Rattle.node_moments.specs.Stands.{InputBytes, StandsAt}
 
 -- ---- what was handed in
@@ -45,14 +45,15 @@ pub record NeverFails (now : BaysView) : Type 0 where
   pub client_in : (n : ℕ) → (client_in_at now n).faults ≡ 0
 
 -- The node and its places stand at a moment of the plan as they would if all that was handed in by now had been there
--- from the first, and no input has failed. Which moment it is, the node says. So all that is said of a node at a moment
--- is said of this one, for whatever is handed in later.
+-- from the first, and no input has failed. Which moment it is, the node says. What holds of every node holds of it. So
+-- all that is said of a node at a moment is said of this one, for whatever is handed in later.
 pub record LiveStands (plan : Plan) (handed : InputBytes) (node : NodeView) (now : BaysView) : Type 0 where
   pub first : BaysView
   pub opens : OpensWith handed first
   pub read : InputBytes
   pub stands : StandsAt plan first read node now
   pub calm : NeverFails now
+  pub is : IsNode node
 
 -- no output has a piece left in the turn that goes
 pub record AreServed (node : NodeView) : Type 0 where

@@ -14,7 +14,7 @@ use Rattle.device_model.specs.Through.{Inputs}
 use Rattle.connection_laws.specs.TwoWorlds.{AgreeOnEnd, HaveSameByte}
 use Rattle.connection_laws.specs.UpToTurn.{AgreeUpTo}
 use Rattle.run_laws.specs.RunsAlike.{HasPlace}
-use Rattle.node_moments.specs.NodeView.{NodeView, IsNode}
+use Rattle.node_moments.specs.NodeView.{NodeView}
 use Rattle.node_moments.specs.Stands.{InputBytes}
 use Rattle.live_laws.specs.Live.{AreServed, LiveStands}
 use Rattle.live_laws.specs.LiveTurns.{inputs_of, turns_out}
@@ -31,7 +31,6 @@ pub record LiveMoment : Type 0 where
 pub record IsLive (plan : Plan) (live : LiveMoment) : Type 0 where
   pub stands : LiveStands plan live.handed live.node live.now
   pub served : AreServed live.node
-  pub is : IsNode live.node
 
 -- how many turns have left of it
 abbrev pub turns_of : LiveMoment → ℕ

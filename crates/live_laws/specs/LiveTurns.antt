@@ -12,7 +12,7 @@ use Rattle.device_model.specs.Entries.{form_in}
 use Rattle.device_model.specs.Moments.{uses, client_due, is_retired, LineDue}
 use Rattle.device_model.specs.RetiredPlaces.{out_after_retire}
 use Rattle.device_model.specs.Through.{Inputs, own_input}
-use Rattle.node_moments.specs.NodeView.{NodeView, IsNode}
+use Rattle.node_moments.specs.NodeView.{NodeView}
 use Rattle.node_moments.specs.Stands.{InputBytes, MayGive}
 use Rattle.live_laws.specs.Live.{telling, AreServed, LiveStands}
 
@@ -43,10 +43,9 @@ pub record ClientLeft (x : Connection) (past : ℕ) (due : List ℕ) (now : OutV
   pub place : now ≡ out_after_retire (is_retired x past) was
 
 -- By now the outputs got what the first turns of a plan have due to them where the inputs are these, as many as have
--- left: a live place all of it, and nothing else. Of its lines a node says which it has; what holds of every node says
--- that it has all (`IsNode`).
+-- left: a live place all of it, and nothing else.
 pub record HaveLeft (plan : Plan) (inputs : Inputs) (node : NodeView) (now : BaysView) : Type 0 where
-  pub line : IsNode node → (b : ℕ) → uses plan (port.LineOut b) ≡ true
+  pub line : (b : ℕ) → uses plan (port.LineOut b) ≡ true
       → (due : List ℕ) × LineDue plan inputs b (turns_out node) 0 due × IsSent telling due (line_out_at now b)
   pub client : (i n : ℕ) (x : Connection) → slice_get plan.connections i ≡ Some x → x.to ≡ to_end.Client n
       → x.start ≤ node.past + 1

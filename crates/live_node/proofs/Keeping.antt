@@ -117,15 +117,15 @@ grown_by was is written bytes others grew had has = record {
 
 pub all_handed : (lines clients : List ℕ) (old new : NodeView) (was kept : BaysView) (rack : Rack FilledSource FilledSink) → kept ≡ was
     → AreSent lines clients kept → OutputsKeep lines clients rack → OutputsGrow kept (places rack)
-    → GoesOn old new was (places rack) → AreServed old → AreServed new → new.past ≡ old.past + 1 → HandsOutSince old new was rack
+    → GoesOn old new was (places rack) → AreServed old → AreServed new → new.past ≡ old.past + 1 → HandsOutSince old was rack
 all_handed lines clients old new was kept rack same sent_kept keeps grows_kept goes served served_too past plan handed h =
     let k = goes plan handed h in
     let sent = subst (AreSent lines clients) same sent_kept in
     let grows = subst (λ v. OutputsGrow v (places rack)) same grows_kept in
     record {
-      line = λ is is_too b few.
-          let one = line_sent plan handed old was b few h served is in
-          let two = line_sent plan handed new (places rack) b few k served_too is_too in
+      line = λ b few.
+          let one = line_sent plan handed old was b few h served in
+          let two = line_sent plan handed new (places rack) b few k served_too in
           let g = grows b in
           handed_at (get_or lines b 0) one.0 two.0 (line_kept rack b) (line_out_at was b) (line_out_at (places rack) b) one.1 two.1 (sent.line b few)
           (λ bytes others had has. grown_by (line_out_at was b) (line_out_at (places rack) b) g.0 bytes others g.1 had has) (keeps.line b few);
@@ -146,11 +146,11 @@ all_at_first sent due others kept is none two keeps bytes had has =
     hands_out sent [] due bytes others others kept telling is (nothing_sent telling refl) two none keeps had has (ap (λ l. l ++ others) (sym e))
 
 pub keeps_all : (lines clients : List ℕ) (plan : Plan) (node : NodeView) (rack : Rack FilledSource FilledSink) → AreNone lines clients
-    → OutputsKeep lines clients rack → LiveStands plan no_bytes node (places rack) → AreServed node → KeepsAll node rack
+    → OutputsKeep lines clients rack → LiveStands plan no_bytes node (places rack) → AreServed node → KeepsAll rack
 keeps_all lines clients plan node rack none keeps h served = record {
-  line = λ is b few. either_live (get_or lines b 0) (line_kept rack b) telling (line_out_at (places rack) b)
+  line = λ b few. either_live (get_or lines b 0) (line_kept rack b) telling (line_out_at (places rack) b)
       (λ bytes others had has.
-      let two = line_sent plan no_bytes node (places rack) b few h served is in
+      let two = line_sent plan no_bytes node (places rack) b few h served in
       all_at_first (get_or lines b 0) two.0 others (line_kept rack b) (line_out_at (places rack) b) (none.line b few) two.1 (keeps.line b few) bytes had has)
       (keeps.line b few);
   client = λ n few. either_live (get_or clients n 0) (client_kept rack n) telling (client_out_at (places rack) n)

@@ -5,7 +5,7 @@ use Rattle.port_base.specs.declared.bays.Rack.{Rack}
 use Rattle.filled_ports.specs.declared.sink.FilledSink.{FilledSink}
 use Rattle.filled_ports.specs.declared.source.FilledSource.{FilledSource}
 use Rattle.plan_file.specs.declared.plan.Plan.{Plan}
-use Rattle.node_moments.specs.NodeView.{NodeView}
+use Rattle.node_moments.specs.NodeView.{NodeView, IsNode}
 use Rattle.node_moments.specs.Stands.{InputBytes, StandsAt, no_bytes}
 use Rattle.network_core.specs.Turns.{LeadsLater}
 use Rattle.live_laws.specs.Live.{AreServed, OpensWith, LiveStands}
@@ -18,18 +18,18 @@ use Rattle.live_node.proofs.Calm.{calm}
 
 pub opens_live : (plan : Plan) (old new : NodeView) (was : BaysView) (rack : Rack FilledSource FilledSink) → LeadsLater old was new (places rack)
     → OpensWith no_bytes was
-    → StandsAt plan was no_bytes old was → LiveStands plan no_bytes new (places rack)
-opens_live plan old new was rack goes opens h =
+    → StandsAt plan was no_bytes old was → IsNode new → LiveStands plan no_bytes new (places rack)
+opens_live plan old new was rack goes opens h node =
     let later = goes plan was no_bytes h in
-    record { first = was; opens = opens; read = later.more; stands = later.stands; calm = calm rack }
+    record { first = was; opens = opens; read = later.more; stands = later.stands; calm = calm rack; is = node }
 
 -- what its outputs kept was let go of, the turn ended, and the outputs of the next were served
 pub turned : (old mid new : NodeView) (was kept : BaysView) (then rack : Rack FilledSource FilledSink) → kept ≡ was → LeadsLater old kept mid (places then)
     → LeadsLater mid (places then) new (places rack)
-    → GoesOn old new was (places rack)
-turned old mid new was kept then rack same one two plan handed h =
+    → IsNode mid → IsNode new → GoesOn old new was (places rack)
+turned old mid new was kept then rack same one two node node_too plan handed h =
     let first : LiveStands plan handed old kept = subst (λ v. LiveStands plan handed old v) (sym same) h in
-    live_goes mid new (places then) (places rack) two (calm rack) plan handed (live_goes old mid kept (places then) one (calm then) plan handed first)
+    live_goes mid new (places then) (places rack) two (calm rack) node_too plan handed (live_goes old mid kept (places then) one (calm then) node plan handed first)
 
 pub still : (node : NodeView) (bays : BaysView) → GoesOn node node bays bays
 still node bays plan handed h = h

@@ -6,7 +6,7 @@ use Rattle.port_base.specs.declared.bays.Rack.{Rack}
 use Rattle.plan_file.specs.declared.plan.Plan.{Plan}
 use Rattle.filled_ports.specs.declared.sink.FilledSink.{FilledSink}
 use Rattle.filled_ports.specs.declared.source.FilledSource.{FilledSource}
-use Rattle.node_moments.specs.NodeView.{NodeView, IsNode}
+use Rattle.node_moments.specs.NodeView.{NodeView}
 use Rattle.node_moments.specs.Stands.{InputBytes}
 use Rattle.live_laws.specs.Live.{telling, LiveStands}
 use Rattle.live_laws.specs.LivePairs.{HasGot}
@@ -21,20 +21,19 @@ pub record HandsOut (was is : OutView) (kept : List ℕ) : Type 0 where
   pub adds : (bytes others : List ℕ) → HasGot was bytes → HasGot is others → others ≡ bytes ++ kept
   pub emptied : is.state ≢ Live → kept ≡ []
 
--- each output does; of lines it is said of a node that has all four
-pub record OutputsHandOut (old new : NodeView) (was : BaysView) (bays : Rack FilledSource FilledSink) : Type 0 where
-  pub line : IsNode old → IsNode new → (b : ℕ) → b < 4
-      → HandsOut (line_out_at was b) (line_out_at (places bays) b) (line_kept bays b)
+-- each output does
+pub record OutputsHandOut (was : BaysView) (bays : Rack FilledSource FilledSink) : Type 0 where
+  pub line : (b : ℕ) → b < 4 → HandsOut (line_out_at was b) (line_out_at (places bays) b) (line_kept bays b)
   pub client : (n : ℕ) → n < 16 → HandsOut (client_out_at was n) (client_out_at (places bays) n) (client_kept bays n)
 
 -- a node that stood so has gone on to where it hands out what its outputs got since, each byte once
-abbrev pub HandsOutSince : (old new : NodeView) → (was : BaysView) → Rack FilledSource FilledSink → Type 0
-HandsOutSince old new was bays = (plan : Plan) (handed : InputBytes) → LiveStands plan handed old was
-    → OutputsHandOut old new was bays
+abbrev pub HandsOutSince : (old : NodeView) → (was : BaysView) → Rack FilledSource FilledSink → Type 0
+HandsOutSince old was bays = (plan : Plan) (handed : InputBytes) → LiveStands plan handed old was
+    → OutputsHandOut was bays
 
 -- of a node from which nothing was let go: each output keeps all that its place got
-pub record KeepsAll (node : NodeView) (bays : Rack FilledSource FilledSink) : Type 0 where
-  pub line : IsNode node → (b : ℕ) → b < 4 → HandsOut telling (line_out_at (places bays) b) (line_kept bays b)
+pub record KeepsAll (bays : Rack FilledSource FilledSink) : Type 0 where
+  pub line : (b : ℕ) → b < 4 → HandsOut telling (line_out_at (places bays) b) (line_kept bays b)
   pub client : (n : ℕ) → n < 16 → HandsOut telling (client_out_at (places bays) n) (client_kept bays n)
 
 -- what is kept is as it was

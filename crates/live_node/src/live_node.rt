@@ -64,7 +64,7 @@ impl LiveNode {
         ensures past { IfOk result (λ live. live.node.past ≡ 0) }
         ensures served { IfOk result (λ live. AreServed live.node) }
         ensures left { IfOk result (λ live. HaveLeft plan (inputs_of plan no_bytes) live.node (places live.bays)) }
-        ensures handed { IfOk result (λ live. KeepsAll live.node live.bays) }
+        ensures handed { IfOk result (λ live. KeepsAll live.bays) }
         ensures plan { IfOk result (λ live. live.plan ≡ plan) }
     {
         let mut node = Node::build(alloc, &plan)?;
@@ -189,8 +189,7 @@ impl LiveNode {
         ensures done { result ≡ Ok Turned.Done → self.new.node.past ≡ self.old.node.past + 1 }
         ensures served { result ≡ Ok Turned.Done → AreServed self.new.node }
         ensures left { PutsOut self.old.node self.new.node (places self.old.bays) (places self.new.bays) }
-        ensures handed { result ≡ Ok Turned.Done → HandsOutSince self.old.node self.new.node (places self.old.bays)
-            self.new.bays }
+        ensures handed { result ≡ Ok Turned.Done → HandsOutSince self.old.node (places self.old.bays) self.new.bays }
         ensures over { result ≡ Ok Turned.Over → self.old.node.turns ≤ self.old.node.past }
         ensures still { (turned : Turned) → result ≡ Ok turned → turned ≢ Turned.Done → IsStill self.old.node
             self.new.node (places self.old.bays) (places self.new.bays) }

@@ -4,7 +4,7 @@ ghost use Rattle.otn_base.specs.declared.kind.PortName.{PortName};
 ghost use Rattle.otn_base.specs.declared.kind.PortName.TheVariants.{LineOut as line-out, ClientOut as client-out};
 ghost use Rattle.port_base.specs.Racks.{bays_view};
 ghost use Rattle.node_core.specs.Growing.{OutputsGrow};
-ghost use Rattle.node_moments.specs.NodeView.{is_ready};
+ghost use Rattle.node_moments.specs.NodeView.{IsNode, is_ready};
 ghost use Rattle.network_core.specs.Turns.{LeadsLater};
 ghost use Rattle.live_laws.specs.Live.{AreServed};
 ghost use Rattle.live_node.specs.Served.{StaysServed};
@@ -21,6 +21,7 @@ pub(crate) fn serve_outputs<P: Source, K: Sink>(node: &mut Node, bays: &mut Rack
     ensures turns { node.new.turns ≡ node.old.turns }
     ensures past { node.new.past ≡ node.old.past }
     ensures grows { OutputsGrow (bays_view P.Source K.Sink bays.old) (bays_view P.Source K.Sink bays.new) }
+    ensures node { IsNode node.new }
     ensures served { AreServed node.new }
 {
     serve_lines(node, bays);
@@ -34,6 +35,7 @@ fn serve_lines<P: Source, K: Sink>(node: &mut Node, bays: &mut Rack<P, K>)
     ensures turns { node.new.turns ≡ node.old.turns }
     ensures past { node.new.past ≡ node.old.past }
     ensures grows { OutputsGrow (bays_view P.Source K.Sink bays.old) (bays_view P.Source K.Sink bays.new) }
+    ensures node { IsNode node.new }
     ensures served { (b : ℕ) → b < 4 → is_ready node.new (line-out b) ≡ false }
 {
     for b in 0..LINES as u8 {
@@ -48,6 +50,7 @@ fn serve_clients<P: Source, K: Sink>(node: &mut Node, bays: &mut Rack<P, K>)
     ensures turns { node.new.turns ≡ node.old.turns }
     ensures past { node.new.past ≡ node.old.past }
     ensures grows { OutputsGrow (bays_view P.Source K.Sink bays.old) (bays_view P.Source K.Sink bays.new) }
+    ensures node { IsNode node.new }
     ensures kept { StaysServed node.old node.new }
     ensures served { (n : ℕ) → n < 16 → is_ready node.new (client-out n) ≡ false }
 {
@@ -63,6 +66,7 @@ fn serve<P: Source, K: Sink>(node: &mut Node, port: PortName, bays: &mut Rack<P,
     ensures turns { node.new.turns ≡ node.old.turns }
     ensures past { node.new.past ≡ node.old.past }
     ensures grows { OutputsGrow (bays_view P.Source K.Sink bays.old) (bays_view P.Source K.Sink bays.new) }
+    ensures node { IsNode node.new }
     ensures kept { StaysServed node.old node.new }
     ensures served { is_ready node.new port ≡ false }
 {

@@ -2,6 +2,7 @@
 ghost use Rattle.std.specs.Prelude.{◌≡◌, ◌<◌, ◌+◌};
 ghost use Rattle.port_base.specs.Racks.{bays_view};
 ghost use Rattle.node_core.specs.Growing.{OutputsGrow};
+ghost use Rattle.node_moments.specs.NodeView.{IsNode};
 ghost use Rattle.network_core.specs.Turns.{LeadsLater};
 
 use node_core::Node;
@@ -15,6 +16,7 @@ pub fn end_turn<P: Source, K: Sink>(node: &mut Node, bays: &mut Rack<P, K>)
     ensures turns { node.new.turns ≡ node.old.turns }
     ensures past { node.new.past ≡ node.old.past + 1 }
     ensures grows { OutputsGrow (bays_view P.Source K.Sink bays.old) (bays_view P.Source K.Sink bays.new) }
+    ensures node { IsNode node.new }
 {
     while node.ready_count() != 0 {
         let port = node.nth_ready(0);

@@ -14,7 +14,7 @@ ghost use Rattle.node_links.specs.Retiring.{RetiredBy};
 ghost use Rattle.node_moments.specs.NodeMoves.{FenceMove};
 ghost use Rattle.node_moments.specs.Steps.NodeMoves.{LineInMove, LineOutMove, ClientInMove, ClientOutMove};
 ghost use Rattle.device_model.specs.Moments.{over_ports, pieces_of};
-ghost use Rattle.node_moments.specs.NodeView.{NodeView, is_ready, left_of, ready_number};
+ghost use Rattle.node_moments.specs.NodeView.{NodeView, IsNode, is_ready, left_of, ready_number};
 ghost use Rattle.turn_pieces.specs.Pieces.{open_count, IsNth, IsCounted};
 ghost use Rattle.node_moments.specs.Stands.{InputBytes, StandsAt, Later, no_bytes};
 
@@ -32,7 +32,8 @@ use std::alloc::Global;
 use std::marker::Model;
 use turn_pieces::Pieces;
 
-/// A node that carries a plan: in turn past + 1, of which each port has done some of its pieces.
+/// A node that carries a plan: in turn past + 1, of which each port has done some of its pieces. Each call that makes
+/// or changes one hands out what holds of every node, and so do `finished` and `ready`, which change nothing.
 #[derive(Drop)]
 pub struct Node {
     pub(crate) turns: u32,
@@ -66,6 +67,7 @@ impl Node {
         ensures turns { IfOk result (λ node. node.turns ≡ plan.now.turns) }
         ensures past { IfOk result (λ node. node.past ≡ 0) }
         ensures left { IfOk result (λ node. left_of node ≡ over_ports (pieces_of plan.now) * plan.now.turns) }
+        ensures node { IfOk result (λ node. IsNode node) }
     {
         let pieces = Pieces::of_plan(alloc, plan)?;
         let lines_in = new_lines_in(alloc, plan)?;
@@ -94,14 +96,16 @@ impl Node {
 
     /// Whether it is past its last turn.
     pub fn finished(&self) -> bool
-        ensures { IsTrue result ↔ (self.now.turns ≤ self.now.past) }
+        ensures over { IsTrue result ↔ (self.now.turns ≤ self.now.past) }
+        ensures node { IsNode self.now }
     {
         self.past >= self.turns
     }
 
     /// Whether the port may be stepped: the plan uses it, a turn is going, and it has pieces left in it.
     pub fn ready(&self, port: PortName) -> bool
-        ensures { result ≡ is_ready self.now port }
+        ensures ready { result ≡ is_ready self.now port }
+        ensures node { IsNode self.now }
     {
         self.past < self.turns && self.pieces.is_open(port)
     }
@@ -140,6 +144,7 @@ impl Node {
         ensures past { self.new.past ≡ self.old.past }
         ensures only { OnlyPort port (bays_view P.Source K.Sink bays.old) (bays_view P.Source K.Sink bays.new) }
         ensures grows { OutputsGrow (bays_view P.Source K.Sink bays.old) (bays_view P.Source K.Sink bays.new) }
+        ensures node { IsNode self.new }
     {
         match port {
             PortName::LineIn(a) => self.step_line_in(a, bays.line_in_mut(a)),
@@ -151,7 +156,8 @@ impl Node {
 
     fn step_line_in<P: Source>(&mut self, a: u8, place: &mut InPlaceOf<P>)
         requires { is_ready self.old (line-in a) ≡ true }
-        ensures { LineInMove a self.old (in_view P.Source place.old) self.new (in_view P.Source place.new) }
+        ensures moves { LineInMove a self.old (in_view P.Source place.old) self.new (in_view P.Source place.new) }
+        ensures node { IsNode self.new }
     {
         self.pieces.count(PortName::LineIn(a));
         read_line(
@@ -166,7 +172,8 @@ impl Node {
 
     fn step_line_out<K: Sink>(&mut self, b: u8, place: &mut OutPlaceOf<K>)
         requires { is_ready self.old (line-out b) ≡ true }
-        ensures { LineOutMove b self.old (out_view K.Sink place.old) self.new (out_view K.Sink place.new) }
+        ensures moves { LineOutMove b self.old (out_view K.Sink place.old) self.new (out_view K.Sink place.new) }
+        ensures node { IsNode self.new }
     {
         let n = self.pieces.done(PortName::LineOut(b));
         self.pieces.count(PortName::LineOut(b));
@@ -183,7 +190,8 @@ impl Node {
 
     fn step_client_in<P: Source>(&mut self, n: u8, place: &mut InPlaceOf<P>)
         requires { is_ready self.old (client-in n) ≡ true }
-        ensures { ClientInMove n self.old (in_view P.Source place.old) self.new (in_view P.Source place.new) }
+        ensures moves { ClientInMove n self.old (in_view P.Source place.old) self.new (in_view P.Source place.new) }
+        ensures node { IsNode self.new }
     {
         self.pieces.count(PortName::ClientIn(n));
         take_client(n, self.past, &mut self.links, place);
@@ -191,7 +199,8 @@ impl Node {
 
     fn step_client_out<K: Sink>(&mut self, n: u8, place: &mut OutPlaceOf<K>)
         requires { is_ready self.old (client-out n) ≡ true }
-        ensures { ClientOutMove n self.old (out_view K.Sink place.old) self.new (out_view K.Sink place.new) }
+        ensures moves { ClientOutMove n self.old (out_view K.Sink place.old) self.new (out_view K.Sink place.new) }
+        ensures node { IsNode self.new }
     {
         self.pieces.count(PortName::ClientOut(n));
         give_client(n, self.past, &mut self.links, place);
@@ -210,6 +219,7 @@ impl Node {
         ensures ends { FenceMove self.old self.new }
         ensures retired { RetiredBy self.old.past self.old.links (bays_view P.Source K.Sink bays.old)
             (bays_view P.Source K.Sink bays.new) }
+        ensures node { IsNode self.new }
     {
         retire_all(&self.links, self.past, bays);
         self.next_turn();
@@ -218,7 +228,8 @@ impl Node {
     fn next_turn(&mut self)
         requires going { self.old.past < self.old.turns }
         requires none { (port : PortName) → is_ready self.old port ≡ false }
-        ensures { FenceMove self.old self.new }
+        ensures ends { FenceMove self.old self.new }
+        ensures node { IsNode self.new }
     {
         let wholes = end_lines(&mut self.lines_in, &self.pieces);
         fence_all(&mut self.links, self.past, &wholes);

@@ -7,7 +7,7 @@ ghost use Rattle.plan_file.specs.declared.plan.Plan.{Plan};
 ghost use Rattle.device_model.specs.RunLeft.{Takings, RunLeft};
 ghost use Rattle.device_model.specs.RunNumbers.{numbers_of_run};
 ghost use Rattle.node_moments.specs.Stands.{InputBytes, StandsAt, Later, no_bytes};
-ghost use Rattle.node_moments.specs.NodeView.{left_of};
+ghost use Rattle.node_moments.specs.NodeView.{IsNode, left_of};
 
 use crate::{Node, RunNumbers};
 use port_base::{Chooser, Rack, Sink, Source};
@@ -25,6 +25,7 @@ pub fn carry<P: Source, K: Sink, C: Chooser>(
     ensures finished { node.new.turns ≤ node.new.past }
     ensures turns { node.new.turns ≡ node.old.turns }
     ensures asked { C.asked chooser.new ≡ raised (C.asked chooser.old) (left_of node.old) }
+    ensures node { IsNode node.new }
 {
     while !node.finished() {
         let count = node.ready_count();

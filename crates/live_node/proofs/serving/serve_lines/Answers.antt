@@ -14,6 +14,7 @@ loop-b-init g c = record {
   past = refl;
   grows = grows_not (bays_view g.P.Source g.K.Sink c.args.bays.now);
   kept = stays_none c.args.node.now;
+  node = λ none. absurd (omega arith);
   served = λ m none. absurd (omega arith);
 }
 
@@ -30,6 +31,7 @@ loop-b-preserved g c =
       past = e.past ∙ i.past;
       grows = grows_twice first was is i.grows e.grows;
       kept = stays_twice c.args.node.now c.loop-b.node c.serve.new.node i.kept e.kept;
+      node = λ some. e.node;
       served = extended (λ m. is_ready c.serve.new.node (port.LineOut m) ≡ false) c.loop-b.b
           (λ m less. e.kept (port.LineOut m) (i.served m less)) e.served;
     }

@@ -2,7 +2,7 @@ use Rattle.std.proofs.Common.{◌≡◌, ◌<◌, ℕ, false}
 use Rattle.otn_base.specs.declared.kind.PortName.TheVariants as port
 use Rattle.port_base.specs.Racks.{bays_view}
 use Rattle.node_core.specs.Growing.{OutputsGrow}
-use Rattle.node_moments.specs.NodeView.{is_ready}
+use Rattle.node_moments.specs.NodeView.{IsNode, is_ready}
 use Rattle.network_core.specs.Turns.{LeadsLater}
 use Rattle.live_node.specs.Served.{StaysServed}
 use Rattle.live_node.proofs.serving.serve_lines.Given as goal
@@ -14,5 +14,6 @@ invariant-loop-b g l = record {
   past : l.node.past ≡ l.fn.node.past;
   grows : OutputsGrow (bays_view g.P.Source g.K.Sink l.fn.bays) (bays_view g.P.Source g.K.Sink l.bays);
   kept : StaysServed l.fn.node l.node;
+  node : 0 < l.b → IsNode l.node;
   served : (m : ℕ) → m < l.b → is_ready l.node (port.LineOut m) ≡ false;
 }

@@ -15,6 +15,7 @@ returns g c =
       past = two.past ∙ one.past;
       grows = grows_twice (bays_view g.P.Source g.K.Sink c.args.bays.now) (bays_view g.P.Source g.K.Sink c.serve_lines.new.bays)
           (bays_view g.P.Source g.K.Sink c.serve_clients.new.bays) one.grows two.grows;
+      node = two.node;
       served = record {
         line_out = λ b few. two.kept (port.LineOut b) (one.served b few);
         client_out = two.served;

@@ -9,20 +9,20 @@ pub returns-clause-stands : goal.returns-clause-stands
 returns-clause-stands c =
     turned c.args.self.now.node c.end_turn.new.node c.serve_outputs.new.node (places c.args.self.now.bays) (places c.let_go_of_outputs.new.bays)
     c.end_turn.new.bays
-    c.serve_outputs.new.bays c.let_go_of_outputs.ensures c.end_turn.ensures.stands c.serve_outputs.ensures.stands
+    c.serve_outputs.new.bays c.let_go_of_outputs.ensures c.end_turn.ensures.stands c.serve_outputs.ensures.stands c.end_turn.ensures.node c.serve_outputs.ensures.node
 
 pub returns-then-not-keep_all-clause-stands : goal.returns-then-not-keep_all-clause-stands
 returns-then-not-keep_all-clause-stands c =
     turned c.args.self.now.node c.end_turn.new.node c.serve_outputs.new.node (places c.args.self.now.bays) (places c.let_go_of_outputs.new.bays)
     c.end_turn.new.bays
-    c.serve_outputs.new.bays c.let_go_of_outputs.ensures c.end_turn.ensures.stands c.serve_outputs.ensures.stands
+    c.serve_outputs.new.bays c.let_go_of_outputs.ensures c.end_turn.ensures.stands c.serve_outputs.ensures.stands c.end_turn.ensures.node c.serve_outputs.ensures.node
 
 pub returns-clause-left : goal.returns-clause-left
 returns-clause-left c =
     puts_out c.args.self.now.node c.serve_outputs.new.node (places c.args.self.now.bays) (places c.serve_outputs.new.bays)
     (turned c.args.self.now.node c.end_turn.new.node c.serve_outputs.new.node (places c.args.self.now.bays) (places c.let_go_of_outputs.new.bays)
     c.end_turn.new.bays
-    c.serve_outputs.new.bays c.let_go_of_outputs.ensures c.end_turn.ensures.stands c.serve_outputs.ensures.stands)
+    c.serve_outputs.new.bays c.let_go_of_outputs.ensures c.end_turn.ensures.stands c.serve_outputs.ensures.stands c.end_turn.ensures.node c.serve_outputs.ensures.node)
     c.serve_outputs.ensures.served
 
 pub returns-then-not-keep_all-clause-left : goal.returns-then-not-keep_all-clause-left
@@ -30,7 +30,7 @@ returns-then-not-keep_all-clause-left c =
     puts_out c.args.self.now.node c.serve_outputs.new.node (places c.args.self.now.bays) (places c.serve_outputs.new.bays)
     (turned c.args.self.now.node c.end_turn.new.node c.serve_outputs.new.node (places c.args.self.now.bays) (places c.let_go_of_outputs.new.bays)
     c.end_turn.new.bays
-    c.serve_outputs.new.bays c.let_go_of_outputs.ensures c.end_turn.ensures.stands c.serve_outputs.ensures.stands)
+    c.serve_outputs.new.bays c.let_go_of_outputs.ensures c.end_turn.ensures.stands c.serve_outputs.ensures.stands c.end_turn.ensures.node c.serve_outputs.ensures.node)
     c.serve_outputs.ensures.served
 
 pub returns-then-finished-clause-left : goal.returns-then-finished-clause-left

@@ -11,7 +11,7 @@ returns-clause-stands c =
     let first = places c.in_ok-bays.bays in
     opens_live c.args.plan c.in_ok-node.node c.serve_outputs.new.node first c.serve_outputs.new.bays c.serve_outputs.ensures.stands
     c.in_ok-bays.ensures
-    (c.in_ok-node.ensures.stands first)
+    (c.in_ok-node.ensures.stands first) c.serve_outputs.ensures.node
 
 pub returns-clause-left : goal.returns-clause-left
 returns-clause-left c =

@@ -39,3 +39,6 @@ returns-clause-left c =
     let node : NodeView = record { turns = c.args.plan.now.turns; past = 0; pieces = c.in_ok-pieces.pieces; lines_in = c.in_ok-lines_in.lines_in.items; lines_out = c.in_ok-lines_out.lines_out.items; links = c.in_ok-links.links.items } in
     let none : BaysView = record { line_in = []; line_out = []; client_in = []; client_out = [] } in
     all_left c.args.plan.now node (returns-clause-stands c none).plan_stands refl c.in_ok-pieces.ensures.fresh
+
+pub returns-clause-node : goal.returns-clause-node
+returns-clause-node c = invariant_of-result c

@@ -25,8 +25,8 @@ invariant_of-self c =
     c.fence_all.ensures c.start_all.ensures in
     fence_node node next going move c.self.invariant
 
-pub returns : goal.returns
-returns c =
+pub returns-clause-ends : goal.returns-clause-ends
+returns-clause-ends c =
     let v = c.self.inside in
     let node : NodeView = record { turns = v.turns; past = v.past; pieces = v.pieces; lines_in = v.lines_in.items; lines_out = v.lines_out.items; links = v.links.items } in
     let same : node ≡ c.args.self.now = c.self.view_is in
@@ -35,3 +35,6 @@ returns c =
     let move : FenceMove node next = fence_move node next c.end_lines-wholes.result c.fence_all.new.links.items c.self.invariant refl refl c.clear.ensures.wants c.clear.ensures.fresh c.end_lines-wholes.ensures.ends four refl
     c.fence_all.ensures c.start_all.ensures in
     subst (λ (n : NodeView). FenceMove n next) same move
+
+pub returns-clause-node : goal.returns-clause-node
+returns-clause-node c = invariant_of-self c

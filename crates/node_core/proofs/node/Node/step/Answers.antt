@@ -28,7 +28,7 @@ returns-in-LineIn-clause-stands g c = λ plan first read h.
     let ready : is_ready c.args.self.now (LineIn n) ≡ true = rw c.in-LineIn.is at c.requires.ready in
     let was : line_in_at old n ≡ in_view g.P.Source c.line_in_mut.result.now = line_in_seen g.P.Source g.K.Sink c.args.bays.now n _ c.line_in_mut.ensures.value in
     let now : line_in_at new n ≡ in_view g.P.Source c.step_line_in.new.place = line_in_set g.P.Source g.K.Sink c.args.bays.now n _ c.step_line_in.new.place c.line_in_mut.ensures.value in
-    let move : LineInMove n c.args.self.now (line_in_at old n) c.step_line_in.new.self (line_in_at new n) = rw (was, now) c.step_line_in.ensures in
+    let move : LineInMove n c.args.self.now (line_in_at old n) c.step_line_in.new.self (line_in_at new n) = rw (was, now) c.step_line_in.ensures.moves in
     line_in_moves plan first read n c.args.self.now c.step_line_in.new.self old new ready move (only_line_in_port n old new (only_line_in g.P.Source g.K.Sink c.args.bays.now n c.step_line_in.new.place)) h
 
 pub returns-in-LineOut-clause-only : goal.returns-in-LineOut-clause-only
@@ -45,7 +45,7 @@ returns-in-LineOut-clause-stands g c = λ plan first read h.
     let ready : is_ready c.args.self.now (LineOut n) ≡ true = rw c.in-LineOut.is at c.requires.ready in
     let was : line_out_at old n ≡ out_view g.K.Sink c.line_out_mut.result.now = line_out_seen g.P.Source g.K.Sink c.args.bays.now n _ c.line_out_mut.ensures.value in
     let now : line_out_at new n ≡ out_view g.K.Sink c.step_line_out.new.place = line_out_set g.P.Source g.K.Sink c.args.bays.now n _ c.step_line_out.new.place c.line_out_mut.ensures.value in
-    let move : LineOutMove n c.args.self.now (line_out_at old n) c.step_line_out.new.self (line_out_at new n) = rw (was, now) c.step_line_out.ensures in
+    let move : LineOutMove n c.args.self.now (line_out_at old n) c.step_line_out.new.self (line_out_at new n) = rw (was, now) c.step_line_out.ensures.moves in
     line_out_moves plan first read n c.args.self.now c.step_line_out.new.self old new ready move (only_line_out_port n old new (only_line_out g.P.Source g.K.Sink c.args.bays.now n c.step_line_out.new.place)) h
 
 pub returns-in-ClientIn-clause-only : goal.returns-in-ClientIn-clause-only
@@ -62,7 +62,7 @@ returns-in-ClientIn-clause-stands g c = λ plan first read h.
     let ready : is_ready c.args.self.now (ClientIn n) ≡ true = rw c.in-ClientIn.is at c.requires.ready in
     let was : client_in_at old n ≡ in_view g.P.Source c.client_in_mut.result.now = client_in_seen g.P.Source g.K.Sink c.args.bays.now n _ c.client_in_mut.ensures.value in
     let now : client_in_at new n ≡ in_view g.P.Source c.step_client_in.new.place = client_in_set g.P.Source g.K.Sink c.args.bays.now n _ c.step_client_in.new.place c.client_in_mut.ensures.value in
-    let move : ClientInMove n c.args.self.now (client_in_at old n) c.step_client_in.new.self (client_in_at new n) = rw (was, now) c.step_client_in.ensures in
+    let move : ClientInMove n c.args.self.now (client_in_at old n) c.step_client_in.new.self (client_in_at new n) = rw (was, now) c.step_client_in.ensures.moves in
     client_in_moves plan first read n c.args.self.now c.step_client_in.new.self old new ready move (only_client_in_port n old new (only_client_in g.P.Source g.K.Sink c.args.bays.now n c.step_client_in.new.place)) h
 
 pub returns-in-ClientOut-clause-only : goal.returns-in-ClientOut-clause-only
@@ -79,7 +79,7 @@ returns-in-ClientOut-clause-stands g c = λ plan first read h.
     let ready : is_ready c.args.self.now (ClientOut n) ≡ true = rw c.in-ClientOut.is at c.requires.ready in
     let was : client_out_at old n ≡ out_view g.K.Sink c.client_out_mut.result.now = client_out_seen g.P.Source g.K.Sink c.args.bays.now n _ c.client_out_mut.ensures.value in
     let now : client_out_at new n ≡ out_view g.K.Sink c.step_client_out.new.place = client_out_set g.P.Source g.K.Sink c.args.bays.now n _ c.step_client_out.new.place c.client_out_mut.ensures.value in
-    let move : ClientOutMove n c.args.self.now (client_out_at old n) c.step_client_out.new.self (client_out_at new n) = rw (was, now) c.step_client_out.ensures in
+    let move : ClientOutMove n c.args.self.now (client_out_at old n) c.step_client_out.new.self (client_out_at new n) = rw (was, now) c.step_client_out.ensures.moves in
     client_out_moves plan first read n c.args.self.now c.step_client_out.new.self old new ready move (only_client_out_port n old new (only_client_out g.P.Source g.K.Sink c.args.bays.now n c.step_client_out.new.place)) h
 
 pub returns-in-LineIn-clause-grows : goal.returns-in-LineIn-clause-grows
@@ -96,7 +96,7 @@ returns-in-LineOut-clause-grows g c =
     let new = bays_view g.P.Source g.K.Sink (with_line_out c.args.bays.now n c.step_line_out.new.place) in
     let was : line_out_at old n ≡ out_view g.K.Sink c.line_out_mut.result.now = line_out_seen g.P.Source g.K.Sink c.args.bays.now n _ c.line_out_mut.ensures.value in
     let now : line_out_at new n ≡ out_view g.K.Sink c.step_line_out.new.place = line_out_set g.P.Source g.K.Sink c.args.bays.now n _ c.step_line_out.new.place c.line_out_mut.ensures.value in
-    let move : LineOutMove n c.args.self.now (line_out_at old n) c.step_line_out.new.self (line_out_at new n) = rw (was, now) c.step_line_out.ensures in
+    let move : LineOutMove n c.args.self.now (line_out_at old n) c.step_line_out.new.self (line_out_at new n) = rw (was, now) c.step_line_out.ensures.moves in
     one_grew n old new move.writes.gained.0 (only_line_out_port n old new (only_line_out g.P.Source g.K.Sink c.args.bays.now n c.step_line_out.new.place)) move.writes.gained.1.sends.got
 
 pub returns-in-ClientIn-clause-grows : goal.returns-in-ClientIn-clause-grows

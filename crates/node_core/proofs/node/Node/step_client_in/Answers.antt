@@ -27,5 +27,8 @@ invariant_of-self g c =
     let is : is_ready (node g c) (port.ClientIn c.args.n) ≡ true = subst (λ (n : NodeView). is_ready n (port.ClientIn c.args.n) ≡ true) (sym c.self.view_is) c.requires in
     piece_kept (port.ClientIn c.args.n) (node g c) (next g c) c.self.invariant is (piece g c) refl refl tt
 
-pub returns : goal.returns
-returns g c = subst (λ (n : NodeView). ClientInMove c.args.n n (in_view g.P.Source c.args.place.now) (next g c) (in_view g.P.Source c.take_client.new.place)) c.self.view_is (record { piece = piece g c; takes = c.take_client.ensures })
+pub returns-clause-moves : goal.returns-clause-moves
+returns-clause-moves g c = subst (λ (n : NodeView). ClientInMove c.args.n n (in_view g.P.Source c.args.place.now) (next g c) (in_view g.P.Source c.take_client.new.place)) c.self.view_is (record { piece = piece g c; takes = c.take_client.ensures })
+
+pub returns-clause-node : goal.returns-clause-node
+returns-clause-node g c = invariant_of-self g c

@@ -27,5 +27,8 @@ invariant_of-self g c =
     let is : is_ready (node g c) (port.ClientOut c.args.n) ≡ true = subst (λ (n : NodeView). is_ready n (port.ClientOut c.args.n) ≡ true) (sym c.self.view_is) c.requires in
     piece_kept (port.ClientOut c.args.n) (node g c) (next g c) c.self.invariant is (piece g c) refl refl tt
 
-pub returns : goal.returns
-returns g c = subst (λ (n : NodeView). ClientOutMove c.args.n n (out_view g.K.Sink c.args.place.now) (next g c) (out_view g.K.Sink c.give_client.new.place)) c.self.view_is (record { piece = piece g c; gives = c.give_client.ensures })
+pub returns-clause-moves : goal.returns-clause-moves
+returns-clause-moves g c = subst (λ (n : NodeView). ClientOutMove c.args.n n (out_view g.K.Sink c.args.place.now) (next g c) (out_view g.K.Sink c.give_client.new.place)) c.self.view_is (record { piece = piece g c; gives = c.give_client.ensures })
+
+pub returns-clause-node : goal.returns-clause-node
+returns-clause-node g c = invariant_of-self g c

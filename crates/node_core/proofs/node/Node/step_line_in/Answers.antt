@@ -59,5 +59,8 @@ module _ (g : Over) (c : goal.After-self-1 g) where
 pub invariant_of-self : goal.invariant_of-self
 invariant_of-self g c = line_in_kept c.args.a (node g c) (next g c) (in_view g.P.Source c.args.place.now) (in_view g.P.Source c.read_line.new.place) c.self.invariant (is_on g c) (move g c) (set_count (node g c).lines_in c.args.a c.read_line.new.line) refl
 
-pub returns : goal.returns
-returns g c = subst (λ (n : NodeView). LineInMove c.args.a n (in_view g.P.Source c.args.place.now) (next g c) (in_view g.P.Source c.read_line.new.place)) c.self.view_is (move g c)
+pub returns-clause-moves : goal.returns-clause-moves
+returns-clause-moves g c = subst (λ (n : NodeView). LineInMove c.args.a n (in_view g.P.Source c.args.place.now) (next g c) (in_view g.P.Source c.read_line.new.place)) c.self.view_is (move g c)
+
+pub returns-clause-node : goal.returns-clause-node
+returns-clause-node g c = invariant_of-self g c

@@ -64,5 +64,8 @@ module _ (g : Over) (c : goal.After-self-1 g) where
 pub invariant_of-self : goal.invariant_of-self
 invariant_of-self g c = line_out_kept c.args.b (node g c) (next g c) (out_view g.K.Sink c.args.place.now) (out_view g.K.Sink c.write_line.new.place) c.self.invariant (is_on g c) (move g c) refl (set_count (node g c).lines_out c.args.b c.write_line.new.line)
 
-pub returns : goal.returns
-returns g c = subst (λ (n : NodeView). LineOutMove c.args.b n (out_view g.K.Sink c.args.place.now) (next g c) (out_view g.K.Sink c.write_line.new.place)) c.self.view_is (move g c)
+pub returns-clause-moves : goal.returns-clause-moves
+returns-clause-moves g c = subst (λ (n : NodeView). LineOutMove c.args.b n (out_view g.K.Sink c.args.place.now) (next g c) (out_view g.K.Sink c.write_line.new.place)) c.self.view_is (move g c)
+
+pub returns-clause-node : goal.returns-clause-node
+returns-clause-node g c = invariant_of-self g c
