@@ -11,7 +11,7 @@ use Rattle.device_model.specs.Moments.{uses}
 use Rattle.plan_file.specs.Answer.{fault_in}
 use Rattle.plan_file.specs.declared.error.PlanError.{PlanError}
 use Rattle.plan_file.specs.declared.plan.Plan.{Plan}
-use Rattle.network_laws.specs.Networks.{FibreEnds, Network, IsNetwork}
+use Rattle.network_laws.specs.Networks.{FibreEnds, IsNetwork}
 use Rattle.network_file.specs.declared.error.NetworkError.TheVariants.{PlanRefused, OtherForm}
 use Rattle.network_file.specs.declared.file.NetworkFile.{NetworkFile}
 use Rattle.network_file.specs.Joining.{network_of, is_same_kind, is_same_mask, is_same_form, are_two_forms, differ, has_two_forms, is_refused, joining_rules, joining_place, joining_fault}

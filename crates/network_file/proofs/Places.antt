@@ -1,12 +1,12 @@
 -- What holds of a list where a rule is broken nowhere in it, and where it is.
-use Rattle.std.proofs.Common.{◌≡◌, ℕ, ◌+◌, ◌<◌, ◌≤◌, Bool, true, false, ◌||◌, cond, List, [], ◌∷◌, ◌++◌, take, length, map, Option, Some, None, slice_get, refl, ap, sym, ◌∙◌, arith, zero, suc}
+use Rattle.std.proofs.Common.{◌≡◌, ℕ, ◌+◌, ◌<◌, Bool, true, false, ◌||◌, cond, List, [], ◌∷◌, ◌++◌, take, length, map, Option, Some, None, slice_get, refl, ap, sym, ◌∙◌, arith, zero, suc}
 use Rattle.std.specs.List.{Contains, list_any}
 use Rattle.std.proofs.lemmas.Option.{slice_get_within, slice_get-get_or, get_or_from_slice_get}
-use Rattle.plan_file.specs.Places.{first, places, places_from, places_after, later_places}
+use Rattle.plan_file.specs.Places.{places, places_from, places_after, later_places}
 use Rattle.plan_file.proofs.Steps.{slice_get_front}
 use Rattle.network_file.specs.declared.error.NetworkError.{NetworkError}
 use Rattle.network_file.specs.declared.place.Place.{Place}
-use Rattle.network_file.specs.Places.{at_top, at_nodes, at_fibres, broken_or, first_broken}
+use Rattle.network_file.specs.Places.{at_top, at_nodes, at_fibres, at_cuts, broken_or, first_broken}
 
 -- ---- no rule is broken
 
@@ -34,6 +34,10 @@ nodes_none (n ∷ numbers) e = cc
 pub fibres_none : (numbers : List ℕ) → at_fibres numbers ≡ None → numbers ≡ []
 fibres_none [] e = refl
 fibres_none (n ∷ numbers) e = cc
+
+pub cuts_none : (numbers : List ℕ) → at_cuts numbers ≡ None → numbers ≡ []
+cuts_none [] e = refl
+cuts_none (n ∷ numbers) e = cc
 
 -- ---- a list without a place
 

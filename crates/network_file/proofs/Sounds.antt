@@ -1,23 +1,25 @@
 -- The file of an outline that breaks no rule is sound.
-use Rattle.std.proofs.Common.{◌≡◌, ℕ, ◌<◌, ◌≤◌, ◌==◌, ℤ, pos, true, false, ◌||◌, not, List, length, map, nat_lt, Some, None, slice_get, refl, ap, sym, ◌∙◌, arith}
+use Rattle.std.proofs.Common.{◌≡◌, ℕ, ◌<◌, ◌≤◌, ◌==◌, ℤ, pos, negsuc, true, false, ◌||◌, ◌&&◌, int_lt, List, length, map, nat_lt, Option, Some, None, slice_get, refl, ap, sym, ◌∙◌, arith}
 use Rattle.std.proofs.lemmas.Bool.{and_parts, not-false, false≢true}
 use Rattle.std.proofs.lemmas.Bool.Decides.{nat_tests, Decides-int_eq}
 use Rattle.std.proofs.lemmas.List.{length-map}
 use Rattle.std.specs.Ordering.{int_eq}
 use Rattle.plan_file.specs.Entry.{natural}
-use Rattle.plan_file.proofs.Fitting.{within}
+use Rattle.plan_file.proofs.Fitting.{within, is_within-wider}
 use Rattle.plan_table.specs.NumberTests.{is_name, is_within}
 use Rattle.network_laws.specs.Networks.{FibreEnds}
+use Rattle.network_file.specs.declared.cut.Cut.{Cut as FileCut}
 use Rattle.network_file.specs.declared.error.NetworkError.{NetworkError}
-use Rattle.network_file.specs.declared.error.NetworkError.TheVariants.{TooMany, BadName, NameTwice, NoSuchNode, NoSuchLine, LineTwice}
+use Rattle.network_file.specs.declared.error.NetworkError.TheVariants.{TooMany, BadName, NameTwice, NoSuchNode, NoSuchLine, LineTwice, NoSuchFibre, BadTurns}
 use Rattle.network_file.specs.declared.node.NodeEntry.{NodeEntry}
-use Rattle.network_file.specs.Outline.{End, Fibre, Outline, ends_of, file_of, index_of}
+use Rattle.network_file.specs.Outline.{Cut, Fibre, Outline, cut_in, cut_of, ends_of, file_of, index_of}
 use Rattle.network_file.specs.Refusal.{value_place, value_refusal, value_rules}
 use Rattle.network_file.specs.Rules.{has_too_many, is_folder, breaks_name, have_one_name, names, lacks_node, lacks_line, lead_to_one_line}
+use Rattle.network_file.specs.Rules.{lacks_fibre, are_turns, breaks_turns_in, breaks_turns}
 use Rattle.network_file.specs.Sound.{IsSound}
-use Rattle.network_file.specs.Steps.Lines.{AreAtLines, IsAtLines}
+use Rattle.network_file.specs.Steps.Lines.{AreAtLines, AreInRange, IsAtLines, IsInRange}
 use Rattle.network_file.proofs.Names.{one_name, index_inside, index_apart}
-use Rattle.network_file.proofs.Places.{none_at, top_none, nodes_none, fibres_none, places_none, later_none, element_of, mapped_at, same_number}
+use Rattle.network_file.proofs.Places.{none_at, top_none, nodes_none, fibres_none, cuts_none, places_none, later_none, element_of, mapped_at, same_number}
 
 -- ---- no rule is broken
 
@@ -46,6 +48,12 @@ single_at : (o : Outline) (i j : ℕ) (f g : Fibre) → value_refusal o ≡ None
 single_at o i j f g none known known' before =
     later_none lead_to_one_line o.fibres i j f g (fibres_none _ (kept_at o 5 LineTwice none refl)) known known' before
 
+fibre_at : (o : Outline) (i : ℕ) (c : Cut) → value_refusal o ≡ None → slice_get o.cuts i ≡ Some c → lacks_fibre (length o.fibres) c ≡ false
+fibre_at o i c none known = places_none (lacks_fibre (length o.fibres)) o.cuts i c (cuts_none _ (kept_at o 6 NoSuchFibre none refl)) known
+
+turns_at : (o : Outline) (i : ℕ) (c : Cut) → value_refusal o ≡ None → slice_get o.cuts i ≡ Some c → breaks_turns c ≡ false
+turns_at o i c none known = places_none breaks_turns o.cuts i c (cuts_none _ (kept_at o 7 BadTurns none refl)) known
+
 -- ---- lines
 
 at_lines : (f : Fibre) → lacks_line f ≡ false → IsAtLines f
@@ -63,15 +71,82 @@ one_line y z in_range in_range' same =
 below_four : (z : ℤ) → is_within 0 3 z ≡ true → natural z < 4
 below_four z in_range = let high = (within 0 3 z in_range).high in omega arith
 
--- ---- numbers of nodes and fibres
+-- ---- numbers of nodes, fibres and cuts
 
-record IsFew (n m : ℕ) : Type 0 where
+record IsFew (n m k : ℕ) : Type 0 where
   some : 1 ≤ n
   nodes : n ≤ 1024
   fibres : m ≤ 4096
+  cuts : k ≤ 4096
 
-is_few : (n m : ℕ) → ((n == 0) || (nat_lt 1024 n || nat_lt 4096 m)) ≡ false → IsFew n m
-is_few n m kept = record { some = grind (arith, nat_tests); nodes = grind (arith, nat_tests); fibres = grind (arith, nat_tests) }
+is_few : (n m k : ℕ) → (((n == 0) || nat_lt 1024 n) || (nat_lt 4096 m || nat_lt 4096 k)) ≡ false → IsFew n m k
+is_few n m k kept = record {
+  some = grind (arith, nat_tests);
+  nodes = grind (arith, nat_tests);
+  fibres = grind (arith, nat_tests);
+  cuts = grind (arith, nat_tests);
+}
+
+-- ---- cuts
+
+-- turns that are two numbers are such
+record AreSpan (count fibre : ℕ) (from until : ℕ) : Type 0 where
+  some : 1 ≤ fibre
+  most : fibre ≤ count
+  before : from < until
+  turns : until ≤ 16384
+
+less_natural : (y z : ℤ) → is_within 0 16384 y ≡ true → is_within 0 16384 z ≡ true → int_lt y z ≡ true → natural y < natural z
+less_natural (pos m) (pos n) in_range in_range' less = grind (arith, nat_tests, less)
+less_natural (pos m) (negsuc n) in_range in_range' less = cc
+less_natural (negsuc m) z in_range in_range' less = cc
+
+not_true : {A : Type 0} → true ≡ false → A
+not_true e = cc
+
+turns_of : (turns : Option (ℤ × ℤ)) → breaks_turns_in turns ≡ false → (pair : ℤ × ℤ) × (turns ≡ Some pair) × (are_turns pair.0 pair.1 ≡ true)
+turns_of None kept = not_true kept
+turns_of (Some pair) kept = (pair, refl, not-false _ kept)
+
+-- the cut of a fibre, in such turns, is in range
+in_range : (count : ℕ) (c : Cut) → count ≤ 4096 → lacks_fibre count c ≡ false → breaks_turns c ≡ false → IsInRange c
+in_range count c few fibre turns =
+    let named = not-false _ fibre in
+    let (pair, is, are) = turns_of c.turns turns in
+    let (both, less) = and_parts (is_within 0 16384 pair.0 && is_within 0 16384 pair.1) (int_lt pair.0 pair.1) are in
+    let (one, other) = and_parts (is_within 0 16384 pair.0) (is_within 0 16384 pair.1) both in
+    record {
+      fibre = is_within-wider 1 count 1 4096 c.fibre named (omega arith) few;
+      turns = λ others same.
+          let alike : pair ≡ others = some_alike pair others (sym is ∙ same) in
+          (rw alike at one, rw alike at other);
+    }
+  where
+    some_alike : (p q : ℤ × ℤ) → ◌≡◌ {A = Option (ℤ × ℤ)} (Some p) (Some q) → p ≡ q
+    some_alike p q e = cc
+
+-- so all cuts are
+pub are_in_range : (o : Outline) → value_refusal o ≡ None → AreInRange o.cuts
+are_in_range o none = record {
+  each = λ i c known.
+      in_range (length o.fibres) c (is_few (length o.nodes) (length o.fibres) (length o.cuts) (few_of o none)).fibres
+      (fibre_at o i c none known) (turns_at o i c none known);
+}
+
+span_of : (count : ℕ) (c : Cut) (made : FileCut) → lacks_fibre count c ≡ false → breaks_turns c ≡ false → made ≡ cut_of c
+    → AreSpan count made.fibre made.from made.until
+span_of count c made fibre turns is =
+    let named = within 1 count c.fibre (not-false _ fibre) in
+    let (pair, two, are) = turns_of c.turns turns in
+    let (both, less) = and_parts (is_within 0 16384 pair.0 && is_within 0 16384 pair.1) (int_lt pair.0 pair.1) are in
+    let (one, other) = and_parts (is_within 0 16384 pair.0) (is_within 0 16384 pair.1) both in
+    let alike : made ≡ cut_in c.fibre (Some pair) = is ∙ ap (cut_in c.fibre) two in
+    rw alike (record {
+      some = named.low;
+      most = named.high;
+      before = less_natural pair.0 pair.1 one other less;
+      turns = (within 0 16384 pair.1 other).high;
+    })
 
 -- ---- the ends of a fibre of the file
 
@@ -125,11 +200,12 @@ lines_apart o i j f g none known known' there into =
 
 pub file_sound : (o : Outline) → value_refusal o ≡ None → IsSound (file_of o)
 file_sound o none =
-    let few = is_few (length o.nodes) (length o.fibres) (few_of o none) in
+    let few = is_few (length o.nodes) (length o.fibres) (length o.cuts) (few_of o none) in
     record {
       some = few.some;
       nodes = few.nodes;
       fibres = rw (length-map o.fibres (ends_of o.nodes)) few.fibres;
+      cuts = rw (length-map o.cuts cut_of) few.cuts;
       names = λ i node known. names_of node (name_at o i node none known);
       apart = λ i j node other known known' same. names_apart o i j node other none known known' same;
       ends = λ ends has.
@@ -140,4 +216,8 @@ file_sound o none =
           let (g, known_g, is') = mapped_at (ends_of o.nodes) o.fibres j others known' in
           lines_apart o i j f g none known_f known_g (sym (ap (λ (e : FibreEnds). e.there) is) ∙ there ∙ ap (λ (e : FibreEnds). e.there) is')
           (sym (ap (λ (e : FibreEnds). e.into) is) ∙ into ∙ ap (λ (e : FibreEnds). e.into) is');
+      cut = λ made has.
+          let (c, known, is) = mapped_at cut_of o.cuts has.0 made (element_of (map cut_of o.cuts) made has) in
+          let span = span_of (length o.fibres) c made (fibre_at o has.0 c none known) (turns_at o has.0 c none known) is in
+          (span.some, rw (length-map o.fibres (ends_of o.nodes)) span.most, span.before, span.turns);
     }

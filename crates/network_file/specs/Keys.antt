@@ -7,7 +7,7 @@ use Rattle.plan_table.specs.Keys.{knows_all, has_other, lacks}
 -- ---- the lists of keys
 
 abbrev pub top_keys : List (List ℕ)
-top_keys = codes "node" ∷ codes "fibre" ∷ []
+top_keys = codes "node" ∷ codes "fibre" ∷ codes "cut" ∷ []
 
 abbrev pub node_keys : List (List ℕ)
 node_keys = codes "name" ∷ codes "folder" ∷ []
@@ -18,6 +18,9 @@ fibre_keys = codes "from" ∷ codes "to" ∷ []
 -- the keys of an end of a fibre
 abbrev pub end_keys : List (List ℕ)
 end_keys = codes "node" ∷ codes "line" ∷ []
+
+abbrev pub cut_keys : List (List ℕ)
+cut_keys = codes "fibre" ∷ codes "turns" ∷ []
 
 -- ---- a key that is not known
 
@@ -37,6 +40,10 @@ has_unknown_end_key side fibre = option_map_or (has_other end_keys) (get side fi
 abbrev pub has_unknown_fibre_key : Data → Bool
 has_unknown_fibre_key fibre = (has_other fibre_keys fibre || has_unknown_end_key (codes "from") fibre)
     || has_unknown_end_key (codes "to") fibre
+
+-- the cut is a table with a key that is not in its list
+abbrev pub has_unknown_cut_key : Data → Bool
+has_unknown_cut_key cut = has_other cut_keys cut
 
 -- ---- a key that is missing
 
@@ -60,3 +67,7 @@ lacks_end_key side fibre = option_map_or lacks_key_of_end (get side fibre) false
 abbrev pub lacks_fibre_key : Data → Bool
 lacks_fibre_key fibre = ((lacks (codes "from") fibre || lacks (codes "to") fibre) || lacks_end_key (codes "from") fibre)
     || lacks_end_key (codes "to") fibre
+
+-- the cut is a table and lacks a key
+abbrev pub lacks_cut_key : Data → Bool
+lacks_cut_key cut = lacks (codes "fibre") cut || lacks (codes "turns") cut

@@ -9,4 +9,5 @@ pub mod Refusal
 pub mod Answer
 pub mod Sound
 pub mod Joining
+pub mod Cuts
 pub mod Steps

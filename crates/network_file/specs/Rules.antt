@@ -1,18 +1,20 @@
--- Believed: the rules of a network's values: of the numbers of nodes and fibres, of each, and of two.
-use Rattle.std.specs.Prelude.{ℕ, nat_lt, ◌==◌, List, [], ◌∷◌, length, Bool, false, not, ◌&&◌, ◌||◌}
+-- Believed: the rules of a network's values: of the numbers of nodes, fibres and cuts, of each, and of two.
+use Rattle.std.specs.Prelude.{ℕ, ℤ, nat_lt, int_lt, ◌==◌, List, [], ◌∷◌, length, Bool, false, true, not, ◌&&◌, ◌||◌, Option, Some, None}
 use Rattle.std.specs.List.{list_any}
 use Rattle.std.specs.Ordering.{int_eq}
 use Rattle.std.specs.Str.{bytes_eq}
+use Rattle.otn_base.specs.declared.limits.TheConstants.{MOST_TURNS}
 use Rattle.plan_table.specs.NumberTests.{is_within, is_name, is_name_byte}
-use Rattle.network_file.specs.declared.limits.TheConstants.{MOST_NODES, MOST_FIBRES}
+use Rattle.network_file.specs.declared.limits.TheConstants.{MOST_NODES, MOST_FIBRES, MOST_CUTS}
 use Rattle.network_file.specs.declared.node.NodeEntry.{NodeEntry}
-use Rattle.network_file.specs.Outline.{Fibre, Outline}
+use Rattle.network_file.specs.Outline.{Cut, Fibre, Outline}
 
 -- ---- numbers
 
--- no node, or more nodes or fibres than a network may have
+-- no node, or more nodes, fibres or cuts than a network may have
 abbrev pub has_too_many : Outline → Bool
-has_too_many o = length o.nodes == 0 || (nat_lt MOST_NODES (length o.nodes) || nat_lt MOST_FIBRES (length o.fibres))
+has_too_many o = (length o.nodes == 0 || nat_lt MOST_NODES (length o.nodes))
+    || (nat_lt MOST_FIBRES (length o.fibres) || nat_lt MOST_CUTS (length o.cuts))
 
 -- ---- names
 
@@ -54,3 +56,22 @@ lacks_line f = not (is_within 0 3 f.from.line && is_within 0 3 f.to.line)
 -- the two lead to one line of one node
 abbrev pub lead_to_one_line : Fibre → Fibre → Bool
 lead_to_one_line f g = bytes_eq f.to.node g.to.node && int_eq f.to.line g.to.line
+
+-- ---- cuts
+
+-- of so many fibres the cut names none
+abbrev pub lacks_fibre : ℕ → Cut → Bool
+lacks_fibre count cut = not (is_within 1 count cut.fibre)
+
+-- two numbers of turns in range, the first of them less
+abbrev pub are_turns : (from until : ℤ) → Bool
+are_turns from until = (is_within 0 MOST_TURNS from && is_within 0 MOST_TURNS until) && int_lt from until
+
+-- what is said of turns is none
+abbrev pub breaks_turns_in : Option (ℤ × ℤ) → Bool
+breaks_turns_in (Some turns) = not (are_turns turns.0 turns.1)
+breaks_turns_in None = true
+
+-- the turns of the cut are none
+abbrev pub breaks_turns : Cut → Bool
+breaks_turns cut = breaks_turns_in cut.turns

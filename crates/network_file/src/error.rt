@@ -4,7 +4,7 @@ ghost use Rattle.std.specs.Prelude.{◌≡◌};
 use crate::place::Place;
 use std::fmt;
 
-/// The twelve rules of a network, each named for what is broken.
+/// The fourteen rules of a network, each named for what is broken.
 #[derive(Clone, Copy, Debug, PartialEq, Eq)]
 pub enum NetworkError {
     /// The text is too long, or no TOML.
@@ -15,7 +15,7 @@ pub enum NetworkError {
     MissingKey,
     /// A value is not of its key's kind.
     WrongKind,
-    /// There is no node, or there are too many nodes or fibres.
+    /// There is no node, or there are too many nodes, fibres or cuts.
     TooMany,
     /// The name of a node, or its folder, is no such text.
     BadName,
@@ -31,12 +31,16 @@ pub enum NetworkError {
     PlanRefused,
     /// The ends of a fibre, each in use, are of two kinds, or one of them alone is scrambled.
     OtherForm,
+    /// A cut names no fibre.
+    NoSuchFibre,
+    /// The turns of a cut are no such turns.
+    BadTurns,
 }
 
 impl NetworkError {
     ghost use Rattle.network_file.specs.Code.{code_of, words_of};
 
-    /// The number of the rule, 1 to 12.
+    /// The number of the rule, 1 to 14.
     pub fn code(&self) -> u8
         ensures { result ≡ code_of self.now }
     {
@@ -53,6 +57,8 @@ impl NetworkError {
             NetworkError::LineTwice => 10,
             NetworkError::PlanRefused => 11,
             NetworkError::OtherForm => 12,
+            NetworkError::NoSuchFibre => 13,
+            NetworkError::BadTurns => 14,
         }
     }
 
@@ -65,7 +71,7 @@ impl NetworkError {
             NetworkError::UnknownKey => "unknown key",
             NetworkError::MissingKey => "missing key",
             NetworkError::WrongKind => "wrong kind of value",
-            NetworkError::TooMany => "no node, or too many nodes or fibres",
+            NetworkError::TooMany => "no node, or too many nodes, fibres or cuts",
             NetworkError::BadName => "bad name or folder",
             NetworkError::NameTwice => "name twice",
             NetworkError::NoSuchNode => "no such node",
@@ -73,6 +79,8 @@ impl NetworkError {
             NetworkError::LineTwice => "line in twice",
             NetworkError::PlanRefused => "plan refused",
             NetworkError::OtherForm => "ends of two forms",
+            NetworkError::NoSuchFibre => "no such fibre",
+            NetworkError::BadTurns => "bad turns",
         }
     }
 }

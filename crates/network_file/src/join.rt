@@ -1,4 +1,4 @@
-// The file of a network with the plans of its nodes: the last two rules.
+// The file of a network with the plans of its nodes: the rules 11 and 12.
 ghost use Rattle.std.specs.Prelude.{◌≡◌, ◌↔◌, None, length};
 ghost use Rattle.network_laws.specs.Networks.{IsNetwork};
 ghost use Rattle.device_model.specs.Entries.{form_in, form_out};
@@ -7,15 +7,15 @@ ghost use Rattle.network_file.specs.Joining.{are_two_forms, has_two_forms, is_re
 ghost use Rattle.network_file.specs.Sound.{IsSound};
 
 use crate::error::NetworkError;
-use crate::fibre::FibreEnds;
 use crate::file::NetworkFile;
 use crate::lists::item;
 use crate::place::Place;
+use network_parts::FibreEnds;
 use otn_base::{LineKind, PortName};
 use plan_file::Plan;
 use turn_pieces::{has_number, kind_by, uses};
 
-/// The first of the last two rules that is broken, at its first place: a plan is refused, or the ends of a fibre, both
+/// The first of the rules 11 and 12 that is broken, at its first place: a plan is refused, or the ends of a fibre, both
 /// in use, are of two forms. The plans are those of the nodes, in the order of the file. None exactly where an accepted
 /// file with these plans is a network.
 pub fn fault(file: &NetworkFile, plans: &[Plan]) -> Option<(NetworkError, Place)>

@@ -5,3 +5,6 @@ pub const MOST_NODES: usize = 1_024;
 
 /// Fibres of a network at most.
 pub const MOST_FIBRES: usize = 4_096;
+
+/// Cuts of a network at most.
+pub const MOST_CUTS: usize = 4_096;

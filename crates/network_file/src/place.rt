@@ -4,7 +4,7 @@ ghost use Rattle.network_file.specs.Places.{at_top};
 
 use std::fmt;
 
-/// A place of a network's file. Nodes, and fibres, count from 1 in the order of the file.
+/// A place of a network's file. Nodes, fibres and cuts count from 1, each in the order of the file.
 #[derive(Clone, Copy, Debug, PartialEq, Eq)]
 pub enum Place {
     /// The top.
@@ -13,9 +13,11 @@ pub enum Place {
     Node(usize),
     /// The fibre of this number.
     Fibre(usize),
+    /// The cut of this number.
+    Cut(usize),
 }
 
-/// `0` for the top, `node 3`, `fibre 3`.
+/// `0` for the top, `node 3`, `fibre 3`, `cut 3`.
 impl fmt::Display for Place {
     ghost use Rattle.std.specs.Prelude.{Some};
     ghost use Rattle.network_file.specs.Places.{place_text};
@@ -27,6 +29,7 @@ impl fmt::Display for Place {
             Place::Top => write!(f, "0"),
             Place::Node(number) => write!(f, "node {number}"),
             Place::Fibre(number) => write!(f, "fibre {number}"),
+            Place::Cut(number) => write!(f, "cut {number}"),
         }
     }
 }
@@ -54,6 +57,16 @@ pub(crate) fn at_fibre(number: Option<usize>) -> Option<Place>
 {
     match number {
         Some(number) => Some(Place::Fibre(number)),
+        None => None,
+    }
+}
+
+/// The cut of this number, if there is one.
+pub(crate) fn at_cut(number: Option<usize>) -> Option<Place>
+    ensures { result ≡ option_map Place.Cut number }
+{
+    match number {
+        Some(number) => Some(Place::Cut(number)),
         None => None,
     }
 }

@@ -1,4 +1,5 @@
 // The rules of a network's values, tried one after another.
+mod cuts;
 mod fault;
 mod fibres;
 mod names;

@@ -1,5 +1,5 @@
 // Texts that a person might write, with what is said of each: the rule that is broken first, by its number, and its
-// first place, or how many nodes and fibres there are.
+// first place, or how many nodes and fibres there are, or which fibres are whole.
 use crate::{NetworkError, NetworkFile, NoNetwork, Place, fault};
 use plan_file::{Connections, LineList, NoPlan, Plan};
 use std::alloc::{AllocError, Global};
@@ -35,6 +35,29 @@ const FILES: &str = r#"
 nodes 2 fibres 2 | node = [{ name = "a" }, { name = "b" }] | [{ from = { node = "a", line = 0 }, to = { node = "b", line = 0 } }, { from = { node = "b", line = 0 }, to = { node = "a", line = 0 } }]
 "#;
 
+// What is wanted, and the cuts of a file of two fibres.
+const CUTS: &str = r#"
+2 at cut 2 | [{ fibre = 1, turns = [0, 1] }, { fibre = 1, turns = [0, 1], node = "a" }]
+3 at cut 1 | [{ fibre = 1 }]
+3 at cut 1 | [{ turns = [0, 1] }, { fibre = 9, turns = [0, 1] }]
+4 at 0 | 7
+4 at 0 | [7]
+4 at cut 1 | [{ fibre = "1", turns = [0, 1] }]
+4 at cut 1 | [{ fibre = 1, turns = 7 }]
+4 at cut 1 | [{ fibre = 1, turns = [0, "1"] }]
+13 at cut 1 | [{ fibre = 0, turns = [0, 1] }]
+13 at cut 2 | [{ fibre = 2, turns = [5, 1] }, { fibre = 3, turns = [0, 1] }]
+14 at cut 1 | [{ fibre = 1, turns = [1] }]
+14 at cut 1 | [{ fibre = 1, turns = [1, 2, 3] }]
+14 at cut 2 | [{ fibre = 1, turns = [1, 2] }, { fibre = 1, turns = [2, 2] }]
+14 at cut 1 | [{ fibre = 1, turns = [-1, 2] }]
+14 at cut 1 | [{ fibre = 1, turns = [1, 16385] }]
+whole 0,1 | []
+whole 1 | [{ fibre = 1, turns = [16383, 16384] }]
+whole 0 | [{ fibre = 2, turns = [0, 1] }, { fibre = 2, turns = [7, 9] }]
+whole | [{ fibre = 2, turns = [0, 1] }, { fibre = 1, turns = [7, 9] }]
+"#;
+
 // Of two nodes with a fibre from line 0 of the first to line 1 of the second: what is wanted, the top of the first
 // plan, where the connection of the second comes from, and the top of the second.
 const PLANS: &str = r#"
@@ -60,6 +83,27 @@ fn answer(alloc: Global, text: &[u8]) -> Result<String, AllocError> {
             format!(in alloc; "{code} at {place}")
         }
         Err(NoNetwork::Memory) => format!(in alloc; "no memory"),
+    }
+}
+
+// The nodes from which the fibres lead that are whole, or the rule that is broken.
+fn whole(alloc: Global, text: &[u8]) -> Result<String, AllocError> {
+    let Ok(file) = NetworkFile::read(alloc, text) else {
+        return answer(alloc, text);
+    };
+    let Ok(fibres) = file.whole_fibres(alloc) else {
+        return format!(in alloc; "no memory");
+    };
+    match fibres.as_slice() {
+        [] => format!(in alloc; "whole"),
+        [one] => {
+            let here = one.from_node();
+            format!(in alloc; "whole {here}")
+        }
+        list => {
+            let count = list.len();
+            format!(in alloc; "whole 0,{}", count - 1)
+        }
     }
 }
 
@@ -106,6 +150,25 @@ fn judges_files(rt: HostRuntime) -> Result<(), Fail> {
                 }
                 None => assert!(rt; false, "{case}"),
             },
+            None => assert!(rt; case.is_empty(), "{case}"),
+        }
+    }
+    Ok(())
+}
+
+#[test]
+fn judges_cuts(rt: HostRuntime) -> Result<(), Fail> {
+    let alloc = rt.alloc();
+    let nodes = r#"node = [{ name = "a" }, { name = "b" }]"#;
+    let one = r#"{ from = { node = "a", line = 0 }, to = { node = "b", line = 0 } }"#;
+    let other = r#"{ from = { node = "b", line = 0 }, to = { node = "a", line = 0 } }"#;
+    for case in CUTS.lines() {
+        match case.split_once(" | ") {
+            Some((wanted, cuts)) => {
+                let text = format!(in alloc; "{nodes}\nfibre = [{one}, {other}]\ncut = {cuts}\n")?;
+                let told = whole(alloc, text.as_bytes())?;
+                assert_eq!(rt; told.as_str(), wanted, "{case}");
+            }
             None => assert!(rt; case.is_empty(), "{case}"),
         }
     }

@@ -1,22 +1,24 @@
-// All nodes and fibres, as the text has them.
+// All nodes, fibres and cuts, as the text has them.
 ghost use Rattle.std.specs.Prelude.{◌≡◌, IfOk, map};
 ghost use Rattle.toml.specs.View.{table_view, view};
-ghost use Rattle.network_file.specs.Table.{fibre_at, node_at, outline_at};
+ghost use Rattle.network_file.specs.Table.{cut_at, fibre_at, node_at, outline_at};
 
+use crate::outline::cut::Cut;
 use crate::outline::fibre::Fibre;
 use crate::outline::node::Node;
-use crate::table::{fibres_at, nodes_at};
+use crate::table::{cuts_at, fibres_at, nodes_at};
 use otn_base::Memory;
 use plan_table::item;
 use std::alloc::Global;
 use std::marker::Model;
 use toml::{Table, Value};
 
-/// The nodes and the fibres, each in order.
+/// The nodes, the fibres and the cuts, each in order.
 #[derive(Drop)]
 pub(crate) struct Outline<'a> {
     pub(crate) nodes: Vec<Node<'a>>,
     pub(crate) fibres: Vec<Fibre<'a>>,
+    pub(crate) cuts: Vec<Cut>,
 }
 
 impl<'a> Model for Outline<'a> {
@@ -24,7 +26,7 @@ impl<'a> Model for Outline<'a> {
 
     ghost Value = { Outline };
 
-    ghost view = { λ o. record { nodes = o.nodes.items; fibres = o.fibres.items } };
+    ghost view = { λ o. record { nodes = o.nodes.items; fibres = o.fibres.items; cuts = o.cuts.items } };
 }
 
 impl<'a> Outline<'a> {
@@ -34,7 +36,12 @@ impl<'a> Outline<'a> {
     {
         let nodes = nodes_of(alloc, nodes_at(top))?;
         let fibres = fibres_of(alloc, fibres_at(top))?;
-        Ok(Outline { nodes, fibres })
+        let cuts = cuts_of(alloc, cuts_at(top))?;
+        Ok(Outline {
+            nodes,
+            fibres,
+            cuts,
+        })
     }
 }
 
@@ -56,6 +63,17 @@ fn fibres_of<'a>(alloc: Global, values: &'a [Value]) -> Result<Vec<Fibre<'a>>, M
     let mut list = Vec::new(alloc);
     for i in 0..values.len() {
         list.push(Fibre::of_table(item(values, i)))?;
+    }
+    Ok(list)
+}
+
+#[tactic(auto, using(crate::proofs::Filled::twice_all))]
+fn cuts_of(alloc: Global, values: &[Value]) -> Result<Vec<Cut>, Memory>
+    ensures { IfOk result (λ list. list.items ≡ map cut_at (map view values.now)) }
+{
+    let mut list = Vec::new(alloc);
+    for i in 0..values.len() {
+        list.push(Cut::of_table(item(values, i)))?;
     }
     Ok(list)
 }

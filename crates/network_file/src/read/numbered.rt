@@ -1,29 +1,36 @@
-// The file of an outline: its nodes, and its fibres by the indices of their nodes.
+// The file of an outline: its nodes, its fibres by the indices of their nodes, and its cuts.
 ghost use Rattle.std.specs.Prelude.{◌≡◌, IfOk, IsTrue, map};
+ghost use Rattle.otn_base.specs.declared.limits.TheConstants.{MOST_TURNS};
 ghost use Rattle.plan_file.specs.Entry.{natural};
 ghost use Rattle.plan_table.specs.NumberTests.{is_within};
-ghost use Rattle.network_file.specs.Outline.{ends_of, file_of, index_of};
-ghost use Rattle.network_file.specs.Steps.Lines.{AreAtLines, IsAtLines};
+ghost use Rattle.network_file.specs.declared.limits.TheConstants.{MOST_FIBRES};
+ghost use Rattle.network_file.specs.Outline.{cut_of, ends_of, file_of, index_of};
+ghost use Rattle.network_file.specs.Steps.Lines.{AreAtLines, AreInRange, IsAtLines, IsInRange};
 
-use crate::fibre::{FibreEnds, Fibres};
+use crate::cut::{Cut as FileCut, Cuts};
+use crate::fibre::Fibres;
 use crate::file::NetworkFile;
 use crate::lists::item;
 use crate::node::{Folder, NodeEntry, Nodes};
-use crate::outline::{Fibre, Node, Outline};
+use crate::outline::{Cut, Fibre, Node, Outline};
+use network_parts::FibreEnds;
 use otn_base::Memory;
 use plan_file::Name;
 use std::alloc::Global;
 
 /// The file of the outline.
 pub(crate) fn numbered(alloc: Global, outline: &Outline) -> Result<NetworkFile, Memory>
-    requires { AreAtLines outline.now.fibres }
+    requires lines { AreAtLines outline.now.fibres }
+    requires cuts { AreInRange outline.now.cuts }
     ensures { IfOk result (λ file. file ≡ file_of outline.now) }
 {
     let nodes = entries(alloc, &outline.nodes)?;
     let fibres = ends(alloc, &outline.nodes, &outline.fibres)?;
+    let cuts = cuts_of(alloc, &outline.cuts)?;
     Ok(NetworkFile {
         nodes: Nodes::of(nodes),
         fibres: Fibres::of(fibres),
+        cuts: Cuts::of(cuts),
     })
 }
 
@@ -94,4 +101,44 @@ fn line(number: i64) -> u8
     ensures { result ≡ natural number }
 {
     number as u8
+}
+
+// The cuts.
+#[tactic(auto, using(plan_file::proofs::Filled::filled_more, plan_file::proofs::Filled::filled_all))]
+fn cuts_of(alloc: Global, cuts: &[Cut]) -> Result<Vec<FileCut>, Memory>
+    requires { AreInRange cuts.now }
+    ensures { IfOk result (λ list. list.items ≡ map cut_of cuts.now) }
+{
+    let mut list = Vec::new(alloc);
+    for i in 0..cuts.len() {
+        list.push(cut_of(item(cuts, i)))?;
+    }
+    Ok(list)
+}
+
+fn cut_of(cut: &Cut) -> FileCut
+    requires { IsInRange cut.now }
+    ensures { result ≡ cut_of cut.now }
+{
+    match cut.turns {
+        Some((from, until)) => cut_in(cut.fibre, from, until),
+        None => FileCut {
+            fibre: cut.fibre as usize,
+            from: 0,
+            until: 0,
+        },
+    }
+}
+
+fn cut_in(fibre: i64, from: i64, until: i64) -> FileCut
+    requires fibre { IsTrue (is_within 1 MOST_FIBRES fibre) }
+    requires from { IsTrue (is_within 0 MOST_TURNS from) }
+    requires until { IsTrue (is_within 0 MOST_TURNS until) }
+    ensures { result ≡ record { fibre = natural fibre; from = natural from; until = natural until } }
+{
+    FileCut {
+        fibre: fibre as usize,
+        from: from as u32,
+        until: until as u32,
+    }
 }

@@ -5,20 +5,23 @@ ghost use Rattle.network_file.specs.Refusal.{value_place, value_refusal};
 ghost use Rattle.network_file.specs.Rules.{has_too_many};
 
 use crate::error::NetworkError;
-use crate::limits::{MOST_FIBRES, MOST_NODES};
+use crate::limits::{MOST_CUTS, MOST_FIBRES, MOST_NODES};
 use crate::outline::Outline;
-use crate::place::{Place, at_fibre, at_node, at_top};
+use crate::place::{Place, at_cut, at_fibre, at_node, at_top};
+use crate::rules::cuts::{first_of_no_turns, first_without_fibre};
 use crate::rules::fibres::{first_line_twice, first_without_line, first_without_node};
 use crate::rules::names::{first_bad_name, first_name_twice};
 
-// The rules, by number.
-const VALUE_RULES: [NetworkError; 6] = [
+// The rules, in their order.
+const VALUE_RULES: [NetworkError; 8] = [
     NetworkError::TooMany,
     NetworkError::BadName,
     NetworkError::NameTwice,
     NetworkError::NoSuchNode,
     NetworkError::NoSuchLine,
     NetworkError::LineTwice,
+    NetworkError::NoSuchFibre,
+    NetworkError::BadTurns,
 ];
 
 /// The first of the rules that the outline breaks, with its first place.
@@ -53,6 +56,10 @@ fn value_place(rule: NetworkError, outline: &Outline) -> Option<Place>
         }
         NetworkError::NoSuchLine => at_fibre(first_without_line(&outline.fibres)),
         NetworkError::LineTwice => at_fibre(first_line_twice(&outline.fibres)),
+        NetworkError::NoSuchFibre => {
+            at_cut(first_without_fibre(outline.fibres.len(), &outline.cuts))
+        }
+        NetworkError::BadTurns => at_cut(first_of_no_turns(&outline.cuts)),
         _ => None,
     }
 }
@@ -63,4 +70,5 @@ fn has_too_many(outline: &Outline) -> bool
     outline.nodes.len() == 0
         || outline.nodes.len() > MOST_NODES
         || outline.fibres.len() > MOST_FIBRES
+        || outline.cuts.len() > MOST_CUTS
 }

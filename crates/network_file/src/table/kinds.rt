@@ -2,8 +2,8 @@
 ghost use Rattle.std.specs.Prelude.{◌≡◌, codes};
 ghost use Rattle.toml.specs.View.{items_view, table_view, view};
 ghost use Rattle.plan_table.specs.Ends.{is_table};
-ghost use Rattle.plan_table.specs.Kinds.{each_at, each_item, is_number, is_table_list, is_text, top_each_at};
-ghost use Rattle.network_file.specs.Kinds.{has_fibre_kinds, has_node_kinds, has_top_kinds, is_end};
+ghost use Rattle.plan_table.specs.Kinds.{each_at, each_item, is_number, is_number_list, is_table_list, is_text, top_each_at};
+ghost use Rattle.network_file.specs.Kinds.{has_cut_kinds, has_fibre_kinds, has_node_kinds, has_top_kinds, is_end};
 
 use crate::table::values::is_table;
 use plan_table::top_value;
@@ -13,7 +13,7 @@ use toml::{Table, Value};
 pub(crate) fn has_top_kinds(top: &Table) -> bool
     ensures { result ≡ has_top_kinds (table_view top.now) }
 {
-    has_tables(top, "node") && has_tables(top, "fibre")
+    has_tables(top, "node") && has_tables(top, "fibre") && has_tables(top, "cut")
 }
 
 /// Whether each value of the node is of its key's kind.
@@ -28,6 +28,13 @@ pub(crate) fn has_fibre_kinds(fibre: &Value) -> bool
     ensures { result ≡ has_fibre_kinds (view fibre.now) }
 {
     has_end(fibre, "from") && has_end(fibre, "to")
+}
+
+/// Whether each value of the cut is of its key's kind.
+pub(crate) fn has_cut_kinds(cut: &Value) -> bool
+    ensures { result ≡ has_cut_kinds (view cut.now) }
+{
+    has_number(cut, "fibre") && has_turns(cut)
 }
 
 fn has_tables(top: &Table, key: &str) -> bool
@@ -80,14 +87,43 @@ fn has_end(fibre: &Value, side: &str) -> bool
 fn is_end(end: &Value) -> bool
     ensures { result ≡ is_end (view end.now) }
 {
-    is_table(end) && has_text(end, "node") && has_line(end)
+    is_table(end) && has_text(end, "node") && has_number(end, "line")
 }
 
-fn has_line(end: &Value) -> bool
-    ensures { result ≡ each_at (codes "line") is_number (view end.now) }
+fn has_number(value: &Value, key: &str) -> bool
+    ensures { result ≡ each_at key.now is_number (view value.now) }
 {
-    match end.get("line") {
-        Some(line) => line.is_integer(),
+    match value.get(key) {
+        Some(found) => found.is_integer(),
         None => true,
     }
+}
+
+fn has_turns(cut: &Value) -> bool
+    ensures { result ≡ each_at (codes "turns") is_number_list (view cut.now) }
+{
+    match cut.get("turns") {
+        Some(turns) => is_number_list(turns),
+        None => true,
+    }
+}
+
+fn is_number_list(value: &Value) -> bool
+    ensures { result ≡ is_number_list (view value.now) }
+{
+    match value.as_array() {
+        Some(values) => all_numbers(values.as_slice()),
+        None => false,
+    }
+}
+
+fn all_numbers(values: &[Value]) -> bool
+    ensures { result ≡ each_item is_number (items_view values.now) }
+{
+    for value in values {
+        if !value.is_integer() {
+            return false;
+        }
+    }
+    true
 }

@@ -2,7 +2,7 @@
 ghost use Rattle.std.specs.Prelude.{◌≡◌};
 ghost use Rattle.toml.specs.View.{table_view, view};
 ghost use Rattle.plan_table.specs.Keys.{has_other, knows_all, lists};
-ghost use Rattle.network_file.specs.Keys.{has_unknown_end_key, has_unknown_fibre_key, has_unknown_node_key, has_unknown_top_key};
+ghost use Rattle.network_file.specs.Keys.{has_unknown_cut_key, has_unknown_end_key, has_unknown_fibre_key, has_unknown_node_key, has_unknown_top_key};
 ghost use Rattle.network_file.specs.Steps.KeyList.{keys_in};
 
 use toml::{Table, Value};
@@ -18,6 +18,8 @@ pub(crate) enum KeyList {
     Fibre,
     /// An end of a fibre.
     End,
+    /// A cut.
+    Cut,
 }
 
 impl KeyList {
@@ -26,10 +28,11 @@ impl KeyList {
         ensures { result ≡ lists (keys_in self) key.now }
     {
         match self {
-            KeyList::Top => matches!(key, "node" | "fibre"),
+            KeyList::Top => matches!(key, "node" | "fibre" | "cut"),
             KeyList::Node => matches!(key, "name" | "folder"),
             KeyList::Fibre => matches!(key, "from" | "to"),
             KeyList::End => matches!(key, "node" | "line"),
+            KeyList::Cut => matches!(key, "fibre" | "turns"),
         }
     }
 
@@ -86,4 +89,11 @@ fn has_unknown_end_key(fibre: &Value, side: &str) -> bool
         Some(end) => KeyList::End.lacks_a_key_of(end),
         None => false,
     }
+}
+
+/// Whether the cut is a table with a key that is not in its list.
+pub(crate) fn has_unknown_cut_key(cut: &Value) -> bool
+    ensures { result ≡ has_unknown_cut_key (view cut.now) }
+{
+    KeyList::Cut.lacks_a_key_of(cut)
 }

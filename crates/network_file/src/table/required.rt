@@ -2,7 +2,7 @@
 ghost use Rattle.std.specs.Prelude.{◌≡◌};
 ghost use Rattle.toml.specs.View.{table_view, view};
 ghost use Rattle.plan_table.specs.Keys.{lacks};
-ghost use Rattle.network_file.specs.Keys.{lacks_end_key, lacks_fibre_key, lacks_key_of_end, lacks_node_key, lacks_nodes};
+ghost use Rattle.network_file.specs.Keys.{lacks_cut_key, lacks_end_key, lacks_fibre_key, lacks_key_of_end, lacks_node_key, lacks_nodes};
 
 use crate::table::values::{has, is_table};
 use plan_table::top_value;
@@ -48,6 +48,13 @@ fn lacks_key_of_end(end: &Value) -> bool
     ensures { result ≡ lacks_key_of_end (view end.now) }
 {
     lacks(end, "node") || lacks(end, "line")
+}
+
+/// Whether the cut is a table and lacks a key.
+pub(crate) fn lacks_cut_key(cut: &Value) -> bool
+    ensures { result ≡ lacks_cut_key (view cut.now) }
+{
+    lacks(cut, "fibre") || lacks(cut, "turns")
 }
 
 fn lacks(value: &Value, key: &str) -> bool
