@@ -9,7 +9,8 @@ use Rattle.line_side.specs.LineForm.{LineForm}
 use Rattle.line_side.specs.Reader.{rest_of}
 use Rattle.line_side.specs.declared.ending.Ending.{Ending}
 use Rattle.line_side.specs.declared.ending.Ending.TheVariants.{Open, Seen, Died}
-use Rattle.line_view.specs.ViewText.{seen_at, turns_of}
+use Rattle.line_view.specs.ViewText.{seen_at}
+use Rattle.tributary_line.specs.TurnsDone.{turns_of}
 use Rattle.view_events.specs.ViewLines.{IsCount, IsViewLine}
 use Rattle.event_laws.specs.ViewOf.{turn_of}
 

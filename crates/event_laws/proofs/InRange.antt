@@ -9,7 +9,8 @@ use Rattle.line_side.specs.LineFile.{mfas_of}
 use Rattle.line_side.specs.LineForm.{LineForm, size_of}
 use Rattle.line_side.specs.Reader.{rest_of}
 use Rattle.line_side.specs.declared.ending.Ending.{Ending}
-use Rattle.line_view.specs.ViewText.{Showing, is_shown, kind_word, mask_word, msi_at_turn, seen_at, told_at, turns_of}
+use Rattle.line_view.specs.ViewText.{Showing, is_shown, kind_word, mask_word, msi_at_turn, seen_at, told_at}
+use Rattle.tributary_line.specs.TurnsDone.{turns_of}
 use Rattle.view_events.specs.ViewLines.{AreViewLines, IsOtherWord, IsViewLine, IsWord, OfEnd, ViewLine}
 use Rattle.event_laws.specs.Laws.{IsByte, IsShown}
 use Rattle.event_laws.specs.ViewOf.{head_of, msi_of, showing_lines, tributary_of, turn_lines, turn_of, view_lines}

@@ -14,7 +14,8 @@ use Rattle.line_side.specs.declared.ending.Ending.{Ending}
 use Rattle.tributary_model.specs.declared.turns.SinkState.{SinkState as Stands}
 use Rattle.tributary_model.specs.declared.turns.SinkState.TheVariants as stands
 use Rattle.line_view.specs.ViewText.{Showing, align_word, end_line, head_line, hex_text, is_shown, msi_at_turn, msi_line, pair_text, seen_at}
-use Rattle.line_view.specs.ViewText.{showing_text, slots_text, state_word, told_at, told_text, tributary_line, turn_line, turn_text, turns_of, view_text}
+use Rattle.line_view.specs.ViewText.{showing_text, slots_text, state_word, told_at, told_text, tributary_line, turn_line, turn_text, view_text}
+use Rattle.tributary_line.specs.TurnsDone.{turns_of}
 use Rattle.line_view.specs.declared.told.Told.{Told}
 use Rattle.line_view.specs.declared.told.TurnSeen.{TurnSeen}
 use Rattle.view_events.specs.ViewLines.{OfEnd, ViewLine, alignment_word, cm_word, cnd_word, line_text}

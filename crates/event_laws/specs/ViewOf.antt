@@ -8,7 +8,8 @@ use Rattle.line_side.specs.Reader.{rest_of}
 use Rattle.line_side.specs.declared.ending.Ending.{Ending}
 use Rattle.tributary_model.specs.declared.turns.SinkState.{SinkState as Stands}
 use Rattle.tributary_model.specs.declared.turns.SinkState.TheVariants as stands
-use Rattle.line_view.specs.ViewText.{Showing, is_shown, kind_word, mask_word, msi_at_turn, seen_at, told_at, turns_of}
+use Rattle.line_view.specs.ViewText.{Showing, is_shown, kind_word, mask_word, msi_at_turn, seen_at, told_at}
+use Rattle.tributary_line.specs.TurnsDone.{turns_of}
 use Rattle.line_view.specs.declared.told.Told.{Told}
 use Rattle.line_view.specs.declared.told.TurnSeen.{TurnSeen}
 use Rattle.view_events.specs.ViewLines.{ViewLine, OfTurn, OfMsi, OfTributary, OfEnd, OfOther}

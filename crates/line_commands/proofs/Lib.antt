@@ -2,7 +2,6 @@ pub mod Hands
 pub mod LineFrames
 pub mod PullCarried
 pub mod PullDamaged
-pub mod PullEnds
 pub mod PullExamples
 pub mod PullLoop
 pub mod PullTable

@@ -23,7 +23,8 @@ use Rattle.tributary_model.proofs.Passing.{joins, joins_to_whole_groups}
 use Rattle.device_model.specs.LineViews.{frames_of, view_at, views_until, emitted_at}
 use Rattle.line_commands.specs.PullReport.{tributary}
 use Rattle.line_commands.specs.PullCarried.{LineCarries, BeginsWithWhatIsCarried, IsTheWholeGroups, HasWhatIsCarriedAfterDamage}
-use Rattle.line_commands.proofs.PullTurns.{stays_ended, written_first, written_all}
+use Rattle.line_commands.proofs.PullTurns.{written_first, written_all}
+use Rattle.tributary_line.proofs.TurnsDone.{stays_ended}
 use Rattle.line_commands.proofs.PullWorlds.{is_tributary}
 
 -- ---- the turns of a line
@@ -75,7 +76,7 @@ went_on ms s n h going = go (has_ended (line_state 8 ms s)) refl
   where
     go : (t : Bool) → has_ended (line_state 8 ms s) ≡ t → has_ended (line_state 8 ms s) ≡ false
     go false e = e
-    go true e = absurd (let late : has_ended (line_state 8 ms n) ≡ true = stays_ended ms s (n - s) n (omega arith) e in let bad : ⊥ = cc in bad)
+    go true e = absurd (let late : has_ended (line_state 8 ms n) ≡ true = stays_ended 8 ms s (n - s) n (omega arith) e in let bad : ⊥ = cc in bad)
 
 -- a turn after which the line has ended shows nothing
 shows_none : (own : Tributary) (available : List ℕ) (t : ℕ) → own.line_slots ≡ 8 → has_ended (line_state 8 (mfas_of available) (suc t)) ≡ true → view_at own available t ≡ None

@@ -10,7 +10,8 @@ use Rattle.tributary_model.specs.Emission.{emission}
 use Rattle.tributary_model.specs.Damage.{NeverThree, emissions}
 use Rattle.tributary_model.proofs.OneDamaged.{as_if_repeated}
 use Rattle.device_model.specs.LineViews.{view_at, views_until, emitted_at}
-use Rattle.line_commands.specs.PullReport.{tributary, turns_of, pull_report}
+use Rattle.line_commands.specs.PullReport.{tributary, pull_report}
+use Rattle.tributary_line.specs.TurnsDone.{turns_of}
 use Rattle.line_commands.specs.PullDamaged.{LinesDifferInOneMessage, WritesAsIfRepeated}
 use Rattle.line_commands.proofs.PullWorlds.{same_flat}
 
@@ -100,8 +101,8 @@ same_all own one other i t d = go (cases_lt t i)
 written_same : (own : Tributary) (one other : List ℕ) (i : ℕ) → LinesDifferInOneMessage own one other i → pull_report own one ≡ pull_report own other
 unfolding pull_report
 written_same own one other i d =
-    same_flat (emitted_at own one) (emitted_at own other) (turns_of (mfas_of one)) (λ t. same_all own one other i t d)
-    ∙ ap (λ ms. flat_map (emitted_at own other) (turns_of ms)) d.mfas
+    same_flat (emitted_at own one) (emitted_at own other) (turns_of 8 (mfas_of one)) (λ t. same_all own one other i t d)
+    ∙ ap (λ ms. flat_map (emitted_at own other) (turns_of 8 ms)) d.mfas
 
 pub writes_as_if_repeated : WritesAsIfRepeated
 writes_as_if_repeated port slots one other i d = written_same (tributary port slots) one other i d

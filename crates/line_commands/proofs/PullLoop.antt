@@ -1,111 +1,139 @@
 -- The turns of `pull`, and how it ends.
-use Rattle.std.proofs.Common.{◌≡◌, ◌≢◌, ◌<◌, ◌≤◌, ◌+◌, ◌*◌, ◌/◌, ◌%◌, ◌∙◌, ◌⊎◌, ℕ, Bool, true, false, List, [], ◌++◌, Option, Some, None, length, ltb, min, refl, sym, ap, subst, inl, inr, arith, append-nil, append_assoc, length-append}
-use Rattle.std.proofs.lemmas.Bool.{ltb-true, ltb-false}
+use Rattle.std.proofs.Common.{◌≡◌, ◌≢◌, ◌<◌, ◌≤◌, ◌+◌, ◌*◌, ◌/◌, ◌%◌, ◌∙◌, ℕ, Bool, true, false, List, [], ◌++◌, Option, Some, None, length, min, refl, sym, ap, subst, arith, append-nil, length-append}
 use Rattle.std.proofs.lemmas.List.{take-append-le}
-use Rattle.port_base.proofs.GivenLaws.{gave_twice}
 use Rattle.port_base.proofs.TakenTwice.{after-after}
 use Rattle.port_base.specs.Bytes.{after}
-use Rattle.port_base.specs.Given.{Gave, DiedUnended}
-use Rattle.port_base.specs.Reads.{HasEnded}
-use Rattle.port_base.specs.Views.{Live, Dead, InView}
-use Rattle.line_side.specs.LineForm.{plain_otu2}
-use Rattle.line_side.specs.LineFile.{mfas_of}
-use Rattle.line_side.specs.LineStands.{LineView}
-use Rattle.line_side.specs.MayBe.{MayBe}
-use Rattle.line_side.proofs.Standing.{died_unended}
-use Rattle.line_side.specs.declared.ending.Ending.{Ending}
-use Rattle.line_side.specs.declared.ending.Ending.TheVariants.{Open, Seen, Died}
-use Rattle.multiframe.specs.LineTurns.{line_state, has_ended}
-use Rattle.tributary_model.specs.Places.{Tributary}
 use Rattle.port_base.specs.PortViews.{SinkView}
-use Rattle.command_base.specs.Ends.{ReportAfter}
-use Rattle.command_base.specs.Gains.{GainsPart}
-use Rattle.device_model.specs.LineViews.{emitted_at}
-use Rattle.line_commands.specs.PullReport.{emitted_until, pull_report, frames_wanted, bytes_read, LeavesBytes}
-use Rattle.line_commands.specs.PullRuns.{PullEnded}
-use Rattle.line_commands.specs.Steps.PullRuns.{TurnRun, AnswerRun}
-use Rattle.line_commands.specs.PullReport.{MayFollow}
-use Rattle.tributary_line.specs.TapTurn.{TapView, TapStands}
-use Rattle.line_commands.specs.declared.pull.After.{After}
-use Rattle.line_commands.specs.declared.pull.After.TheVariants as next
+use Rattle.port_base.specs.Writes.{Gains}
+use Rattle.port_base.specs.Views.{InView, Empty}
 use Rattle.port_base.specs.declared.ended.Ended.{Ended}
 use Rattle.port_base.specs.declared.ended.Ended.TheVariants.{Done, Unfinished, Cut, ReportFault, Memory}
-use Rattle.line_commands.proofs.PullEnds.{took_so_far, TookWanted, took_wanted, frames_there}
-use Rattle.line_commands.proofs.PullTurns.{turn_count, written_first, written_all}
+use Rattle.line_side.proofs.Mfas.{length_mfas}
+use Rattle.line_side.specs.LineFile.{mfas_of}
+use Rattle.line_side.specs.LineForm.{plain_otu2}
+use Rattle.line_side.specs.MayBe.{MayBe}
+use Rattle.multiframe.specs.LineTurns.{wanted}
+use Rattle.line_side.specs.declared.ending.Ending.{Ending}
+use Rattle.line_side.specs.declared.ending.Ending.TheVariants.{Open, Seen, Died}
+use Rattle.std.specs.Prelude.{IsTrue}
+use Rattle.tributary_model.specs.Places.{Tributary}
+use Rattle.command_base.proofs.Reports.{report_same, report_more}
 use Rattle.command_base.proofs.Rows.{flat_map-range_more}
+use Rattle.command_base.specs.AnswerWords.{Reports}
+use Rattle.command_base.specs.Ends.{ReportAfter, line_status}
+use Rattle.command_base.specs.Gains.{GainsPart}
+use Rattle.device_model.specs.LineAsked.{is_seen}
+use Rattle.device_model.specs.LineViews.{emitted_at}
+use Rattle.tributary_line.proofs.LineEndings.{line_ends, line_stops}
+use Rattle.tributary_line.proofs.Wanting.{took_least, took_turns}
+use Rattle.tributary_line.specs.TapTurn.{TapStands, TurnMoves}
+use Rattle.tributary_line.specs.TurnsDone.{MayFollow, bytes_read, frames_wanted}
+use Rattle.tributary_line.specs.Walking.{after_by, EndsWith, TurnHolds, Walked, TurnWalked, WalkDone, WalkLost, WalkEnds, LeftAs}
+use Rattle.port_base.specs.declared.drain.Written.{Written}
+use Rattle.port_base.specs.declared.drain.Written.TheVariants as written
+use Rattle.command_base.specs.Steps.Ends.{step_of}
+use Rattle.line_commands.specs.PullReport.{emitted_until, pull_report}
+use Rattle.line_commands.specs.PullRuns.{PullEnded, PullEnds}
+use Rattle.line_commands.specs.Steps.PullRuns.{IsNew, PullHolds, PullLost, own_of}
+use Rattle.line_commands.specs.declared.pull.Pulling.{Pulling}
+use Rattle.line_commands.proofs.PullTurns.{written_first, written_all}
 use Rattle.line_commands.proofs.SlotLoop.{after-none, part_after}
 
--- the turns so far: t of them, and the line had not ended before any
-pub record TurnsSoFar (own : Tributary) (first now : InView) (t : ℕ) (tap : TapView) (old new : Option (List ℕ)) : Type 0 where
-  pub read : List ℕ
-  pub stands : TapStands own first now read t tap
-  pub report : (available : List ℕ) → MayBe false tap.line.reader.ending read available → new ≡ after old (emitted_until own available t)
-  pub unended : (available : List ℕ) → MayBe false tap.line.reader.ending read available → (s : ℕ) → s < t → has_ended (line_state 8 (mfas_of available) s) ≡ false
+-- all that was taken is what a line may have
+itself : (ending : Ending) (read : List ℕ) → MayBe false ending read read
+itself ending read = record { rest = []; over = λ _. refl; parts = sym (append-nil read) }
 
--- whether the line has ended after these turns
-abbrev pub HasLast : (own : Tributary) (first now : InView) (t : ℕ) (tap : TapView) (old new : Option (List ℕ)) → TurnsSoFar own first now t tap old new → Bool → Type 0
-HasLast own first now t tap old new h ended =
-    (available : List ℕ) → MayBe false tap.line.reader.ending h.read available → has_ended (line_state 8 (mfas_of available) t) ≡ ended
+-- a line's end was seen, by its answer
+pub seen_is : (b : Bool) (e : Ending) → (IsTrue b → e ≡ Seen) × (e ≡ Seen → IsTrue b) → b ≡ is_seen e
+seen_is true Seen h = refl
+seen_is true Open h = absurd (let e : Open ≡ Seen = h.0 refl in cc)
+seen_is true Died h = absurd (let e : Died ≡ Seen = h.0 refl in cc)
+seen_is false Seen h = absurd (let e : false ≡ true = h.1 refl in cc)
+seen_is false Open h = refl
+seen_is false Died h = refl
 
--- one turn more
+-- ---- before the first turn
+
+own_is : (own : Tributary) (pulling : Pulling) → ((first : InView) → TapStands own first first [] 0 pulling.tap) → (first : InView) → own_of pulling ≡ own
+own_is own pulling stands first = sym ((stands first).sink [] (itself pulling.tap.line.reader.ending [])).own_is
+
+-- whatever its line
+pub own_first : (own : Tributary) (pulling : Pulling) → ((first : InView) → TapStands own first first [] 0 pulling.tap) → own_of pulling ≡ own
+own_first own pulling stands = own_is own pulling stands no_view
+  where
+    no_view : InView
+    no_view = record { state = Empty; boxed = false; left = None; faults = 0; number = 0; ended = false }
+
+pub new_stands : (own : Tributary) (pulling : Pulling) → ((first : InView) → TapStands own first first [] 0 pulling.tap) → IsNew pulling
+new_stands own pulling stands first = subst (λ o. TapStands o first first [] 0 pulling.tap) (sym (own_is own pulling stands first)) (stands first)
+
+pub pull_begins : (pulling : Pulling) (first : InView) (got : SinkView) → IsNew pulling → pulling.tap.line.pieces ≡ 0
+    → Walked plain_otu2 first first [] 0 pulling.tap.line (PullHolds pulling pulling got got)
+pull_begins pulling first got new between = record {
+  stands = (new first).line;
+  between = between;
+  holds = λ available may. record {
+    size = (new first).size;
+    sink = (new first).sink available may;
+    wrote = after-none got.got;
+    report = report_same got;
+  };
+}
+
+-- ---- a turn
+
+-- how the sink stands
+pub tap_stands : (origin now : Pulling) (was is : SinkView) (first place : InView) (read : List ℕ) (t : ℕ) → Walked plain_otu2 first place read t now.tap.line (PullHolds origin now was is)
+    → TapStands (own_of origin) first place read t now.tap
+tap_stands origin now was is first place read t h = record {
+  size = (h.holds read (itself now.tap.line.reader.ending read)).size;
+  line = h.stands;
+  sink = λ available may. (h.holds available may).sink;
+}
+
+-- what a turn emits is written behind the rest
 emitted_more : (own : Tributary) (available : List ℕ) (t : ℕ) → emitted_until own available (t + 1) ≡ emitted_until own available t ++ emitted_at own available t
 emitted_more own available t =
     let last : 0 + t ≡ t = omega arith in
     flat_map-range_more (emitted_at own available) 0 t ∙ ap (λ s. emitted_until own available t ++ emitted_at own available s) last
 
--- a line hunts before its first turn
-first_open : (ms : List ℕ) → has_ended (line_state 8 ms 0) ≡ false
-unfolding line_state
-first_open ms = refl
-
--- before the first turn
-pub turns_none : (own : Tributary) (first : InView) (tap : TapView) (got : Option (List ℕ)) → ((first : InView) → TapStands own first first [] 0 tap)
-    → (h : TurnsSoFar own first first 0 tap got got) × HasLast own first first 0 tap got got h false
-turns_none own first tap got stands = (
-  record {
-    read = [];
-    stands = stands first;
-    report = λ available may. after-none got;
-    unended = λ available may s before. absurd (omega (arith, before));
-  },
-  λ available may. first_open (mfas_of available),
-)
-
--- a number below t + 1 is below t, or is t
-last_or_before : (s t : ℕ) → s < t + 1 → (s < t) ⊎ (s ≡ t)
-last_or_before s t within = by_test (ltb s t) refl
+pub turn_walked : (result : Written) (origin old new : Pulling) (was mid is : SinkView) (first place now : InView) (read : List ℕ) (t : ℕ) (emitted : List ℕ)
+    → Walked plain_otu2 first place read t old.tap.line (PullHolds origin old was mid)
+    → TurnMoves (own_of origin) first now read t old.tap new.tap emitted → new.tap.line.pieces ≡ 0 → Gains result mid.got emitted is.got → ReportAfter (step_of result) mid is
+    → TurnWalked (after_by result new.tap.line.ended) plain_otu2 first now read t old.tap.line new.tap.line (PullHolds origin new was is) (PullLost origin new was is)
+turn_walked result origin old new was mid is first place now read t emitted h m between gains report = record {
+  further = m.further;
+  stands = m.stands.line;
+  between = between;
+  earlier = m.earlier;
+  holds = λ available may. by_answer result new.tap.line.ended gains report available may (h.holds available (m.earlier available may));
+  ended = λ available may. by_end result new.tap.line.ended (m.ended available may);
+}
   where
-    by_test : (b : Bool) → ltb s t ≡ b → (s < t) ⊎ (s ≡ t)
-    by_test true e = inl (ltb-true s t e)
-    by_test false e = let above = ltb-false s t e in inr (omega (arith, above, within))
+    goes : (is.got ≡ after mid.got emitted) → ReportAfter None mid is → (available : List ℕ)
+        → MayBe false new.tap.line.reader.ending (read ++ m.further) available → PullHolds origin old was mid available t → PullHolds origin new was is available (t + 1)
+    goes got report available may k = record {
+      size = k.size;
+      sink = m.stands.sink available may;
+      wrote = got ∙ ap (λ r. after r emitted) k.wrote ∙ after-after was.got (emitted_until (own_of origin) available t) emitted
+          ∙ ap (λ xs. after was.got (emitted_until (own_of origin) available t ++ xs)) (m.emits available may) ∙ ap (after was.got) (sym (emitted_more (own_of origin) available t));
+      report = report_more None was mid is k.report report;
+    }
 
--- the line had not ended before turn t + 1 either
-still_unended : (ms : List ℕ) (t : ℕ) → ((s : ℕ) → s < t → has_ended (line_state 8 ms s) ≡ false) → has_ended (line_state 8 ms t) ≡ false
-    → (s : ℕ) → s < t + 1 → has_ended (line_state 8 ms s) ≡ false
-still_unended ms t before last s within = by_place (last_or_before s t within)
-  where
-    by_place : (s < t) ⊎ (s ≡ t) → has_ended (line_state 8 ms s) ≡ false
-    by_place (inl less) = before s less
-    by_place (inr same) = ap (λ k. has_ended (line_state 8 ms k)) same ∙ last
+    by_answer : (r : Written) (e : Bool) → Gains r mid.got emitted is.got → ReportAfter (step_of r) mid is → (available : List ℕ) → MayBe false new.tap.line.reader.ending (read ++ m.further) available
+        → PullHolds origin old was mid available t → TurnHolds (after_by r e) (PullHolds origin new was is) (PullLost origin new was is) available t
+    by_answer written.Whole true g report available may k = goes g report available may k
+    by_answer written.Whole false g report available may k = goes g report available may k
+    by_answer written.Lost e g report available may k = record {
+      wrote = subst (λ r. GainsPart r is.got (emitted_at (own_of origin) available t)) k.wrote
+          (subst (GainsPart mid.got is.got) (m.emits available may) (record { written = g.0; part = g.1; gained = g.2 }));
+      report = report_more (Some ReportFault) was mid is k.report report;
+    }
 
--- a turn more, after which the line has ended or not
-pub turns_more : (own : Tributary) (first was now : InView) (t : ℕ) (before later : TapView) (old gained new : Option (List ℕ)) (ended : Bool) (answer : After)
-    → (h : TurnsSoFar own first was t before old gained) → HasLast own first was t before old gained h false
-    → (run : TurnRun own first now h.read t before later gained new answer) → (new ≡ after gained run.emitted) × (later.line.ended ≡ ended)
-    → (k : TurnsSoFar own first now (t + 1) later old new) × HasLast own first now (t + 1) later old new k ended
-turns_more own first was now t before later old gained new ended answer h last run wrote = (
-  record {
-    read = h.read ++ run.moves.further;
-    stands = run.moves.stands;
-    report = λ available may.
-        wrote.0 ∙ ap (λ r. after r run.emitted) (h.report available (run.moves.earlier available may)) ∙ after-after old (emitted_until own available t) run.emitted
-        ∙ ap (λ xs. after old (emitted_until own available t ++ xs)) (run.moves.emits available may) ∙ ap (after old) (sym (emitted_more own available t));
-    unended = λ available may.
-        let earlier = run.moves.earlier available may in
-        still_unended (mfas_of available) t (h.unended available earlier) (last available earlier);
-  },
-  λ available may. sym (run.moves.ended available may) ∙ wrote.1,
-)
+    by_end : (r : Written) (e : Bool) {b : Bool} → e ≡ b → EndsWith (after_by r e) b
+    by_end written.Whole true same = sym same
+    by_end written.Whole false same = sym same
+    by_end written.Lost e same = tt
 
 -- ---- how it ends
 
@@ -119,270 +147,104 @@ part_before old new bytes rest h =
       gained = h.gained ∙ ap (after old) (sym (take-append-le h.written bytes rest within));
     }
 
--- whether more may come of a line
-abbrev pub may_come : Ending → Bool
-may_come Open = true
-may_come Seen = false
-may_come Died = false
-
-follows : (ending : Ending) (read rest : List ℕ) → MayFollow (may_come ending) rest → MayBe false ending read (read ++ rest)
-follows Open read rest follow = record { rest = rest; over = λ closed. absurd (closed refl); parts = refl }
-follows Seen read rest follow = record { rest = rest; over = λ closed. follow; parts = refl }
-follows Died read rest follow = record { rest = rest; over = λ closed. follow; parts = refl }
-
-closed_is : (ending : Ending) → may_come ending ≡ false → ending ≢ Open
-closed_is Open e = absurd (cc)
-closed_is Seen e = λ f. cc
-closed_is Died e = λ f. cc
+within : (read rest : List ℕ) → length read ≤ length (read ++ rest)
+within read rest = let long = length-append read rest in omega (arith, long)
 
 -- with a write that failed
-pub turns_lost : (own : Tributary) (first was now : InView) (t : ℕ) (before later : TapView) (old gained new : Option (List ℕ))
-    → (h : TurnsSoFar own first was t before old gained) → HasLast own first was t before old gained h false → t < 16384
-    → TurnRun own first now h.read t before later gained new next.ReportFailed → later.line.pieces ≡ 0 → PullEnded own first now old new ReportFault
-turns_lost own first was now t before later old gained new h last few run none = record {
-  read = h.read ++ run.moves.further;
-  gave = run.moves.stands.line.gave;
-  more = may_come later.line.reader.ending;
-  over = λ none live. run.moves.stands.line.over (closed_is later.line.reader.ending none) live;
-  died = died_unended plain_otu2 first now (h.read ++ run.moves.further) (t + 1) later.line run.moves.stands.line;
-  report = λ rest follow.
-      let available = (h.read ++ run.moves.further) ++ rest in
-      let may = follows later.line.reader.ending (h.read ++ run.moves.further) rest follow in
-      let earlier = run.moves.earlier available may in
-      let part = part_after old gained new (emitted_until own available t) run.emitted (h.report available earlier) run.wrote in
-      let turn = ap (λ xs. emitted_until own available t ++ xs) (run.moves.emits available may) ∙ sym (emitted_more own available t) in
-      let all = written_first own available (t + 1) (omega arith) (still_unended (mfas_of available) t (h.unended available earlier) (last available earlier)) in
-      subst (GainsPart old new) (sym all.1) (part_before old new (emitted_until own available (t + 1)) all.0 (subst (GainsPart old new) turn part));
-  ends = tt;
-  took = λ other. absurd (other refl);
-  stopped = λ _. (
-    t,
-    λ rest follow.
-        let available = (h.read ++ run.moves.further) ++ rest in
-        let may = follows later.line.reader.ending (h.read ++ run.moves.further) rest follow in
-        let earlier = run.moves.earlier available may in
-        record {
-          few = few;
-          unended = λ s within. still_unended (mfas_of available) t (h.unended available earlier) (last available earlier) s (omega (arith, within));
-          last = took_so_far available (h.read ++ run.moves.further) (t + 1) later.line (run.moves.stands.line.is_line available may) none;
-          gained = subst (λ r. GainsPart r new (emitted_at own available t)) (h.report available earlier) (subst (GainsPart gained new) (run.moves.emits available may) run.wrote);
-        },
-  );
-}
-
-open_is : (ending : Ending) → ending ≢ Seen → ending ≢ Died → ending ≡ Open
-open_is Open a b = refl
-open_is Seen a b = absurd (a refl)
-open_is Died a b = absurd (b refl)
-
--- a place that is not dead was not dead before
-pub was_alive : (was now : InView) (further : List ℕ) → Gave was further now → now.state ≢ Dead → was.state ≢ Dead
-was_alive was now further gave alive dead =
-    let idle : was.state ≢ Live = λ live. let e : Dead ≡ Live = sym dead ∙ live in absurd (cc) in
-    alive (ap (λ (v : InView). v.state) (gave.idle idle).0 ∙ dead)
-
--- all that was taken is what a line may have
-itself : (ending : Ending) (read : List ℕ) → MayBe false ending read read
-itself ending read = record { rest = []; over = λ _. refl; parts = sym (append-nil read) }
-
-alone : (ending : Ending) (read rest : List ℕ) → rest ≡ [] → MayBe false ending read (read ++ rest)
-alone ending read rest none = record { rest = rest; over = λ _. none; parts = refl }
-
--- after the last turn: of all that the line may have, its report is written, and what the turns wanted was taken
-record AllTurns (own : Tributary) (read : List ℕ) (line : LineView) (old new : Option (List ℕ)) : Type 0 where
-  pub report : (available : List ℕ) → MayBe false line.reader.ending read available → new ≡ after old (pull_report own available)
-  pub took : (available : List ℕ) → MayBe false line.reader.ending read available → TookWanted available read line.reader
-
-all_turns : (own : Tributary) (first was : InView) (t : ℕ) (tap : TapView) (old new : Option (List ℕ)) → (h : TurnsSoFar own first was t tap old new) → t ≤ 16384
-    → ((available : List ℕ) → MayBe false tap.line.reader.ending h.read available → (has_ended (line_state 8 (mfas_of available) t) ≡ true) ⊎ (t ≡ 16384))
-    → tap.line.pieces ≡ 0 → AllTurns own h.read tap.line old new
-all_turns own first was t tap old new h few last none = record {
-  report = λ available may. h.report available may ∙ ap (after old) (sym (written_all own available t few (h.unended available may) (last available may)));
-  took = λ available may.
-      took_wanted available h.read t tap.line (h.stands.line.is_line available may) none (turn_count (mfas_of available) t few (h.unended available may) (last available may));
-}
-
--- nothing is left after the whole frames, where the end was seen
-no_rest : (n frames rest : ℕ) → frames ≡ n / 16320 → rest ≡ n % 16320 → rest ≡ 0 → (16320 * frames < n → ⊥) × (n % 16320 ≡ 0)
-no_rest n frames rest a b c = (λ less. omega (arith, a, b, c, less), omega (arith, b, c))
-
-some_rest : (n frames rest : ℕ) → frames ≡ n / 16320 → rest ≡ n % 16320 → 0 < rest → (16320 * frames < n) × (0 < n % 16320)
-some_rest n frames rest a b c = (omega (arith, a, b, c), omega (arith, b, c))
-
-whole_frames_only : (n frames : ℕ) → n ≡ 16320 * frames → (16320 * frames < n → ⊥) × (n % 16320 ≡ 0)
-whole_frames_only n frames a = (λ less. omega (arith, a, less), omega (arith, a))
-
-one_byte : (n m frames : ℕ) → n ≡ 16320 * frames → m ≡ n + 1 → 0 < m % 16320
-one_byte n m frames a b = omega (arith, a, b)
-
--- so many bytes were taken where no more may follow
-open_least : (n m frames : ℕ) → n ≡ 16320 * frames → m ≡ n → n ≡ min m (16320 * frames + 1)
-open_least n m frames a b = omega (arith, a, b)
-
-closed_least : (n m frames : ℕ) → n ≡ m → m < 16320 * frames → n ≡ min m (16320 * frames + 1)
-closed_least n m frames a b = omega (arith, a, b)
-
-alone_took : (own : Tributary) (read : List ℕ) (line : LineView) (old new : Option (List ℕ)) → AllTurns own read line old new
-    → (rest : List ℕ) → rest ≡ [] → length read ≡ bytes_read (read ++ rest)
-alone_took own read line old new all rest none = by_ending line.reader.ending refl
-  where
-    took : TookWanted (read ++ rest) read line.reader
-    took = all.took (read ++ rest) (alone line.reader.ending read rest none)
-
-    same : length (read ++ rest) ≡ length read
-    same = ap length (ap (λ xs. read ++ xs) none ∙ append-nil read)
-
-    closed : line.reader.ending ≢ Open → length read ≡ bytes_read (read ++ rest)
-    closed ended = let o = took.over ended in closed_least (length read) (length (read ++ rest)) (frames_wanted (read ++ rest)) o.0 o.2
-
-    by_ending : (e : Ending) → line.reader.ending ≡ e → length read ≡ bytes_read (read ++ rest)
-    by_ending Open e =
-        let s = took.still e in
-        open_least (length read) (length (read ++ rest)) (frames_wanted (read ++ rest)) (s.0 ∙ ap (λ n. 16320 * n) s.1) same
-    by_ending Seen e = closed (λ f. cc)
-    by_ending Died e = closed (λ f. cc)
-
--- and where one byte more was taken
-more_least : (n more m frames : ℕ) → n ≡ 16320 * frames → more ≡ n + 1 → more ≤ m → more ≡ min m (16320 * frames + 1)
-more_least n more m frames a b c = omega (arith, a, b, c)
-
--- the end was seen
-seen_ends : (own : Tributary) (first now : InView) (read : List ℕ) (line : LineView) (old new : Option (List ℕ)) → AllTurns own read line old new
-    → Gave first read now → now.state ≢ Dead → (now.state ≡ Live → HasEnded now.left now.ended) → line.reader.ending ≡ Seen
-    → ((line.reader.rest ≡ 0) → PullEnded own first now old new Done) × ((0 < line.reader.rest) → PullEnded own first now old new Unfinished)
-seen_ends own first now read line old new all gave alive over seen =
-    let took = all.took read (itself line.reader.ending read) in
-    let closed : line.reader.ending ≢ Open = λ e. let f : Seen ≡ Open = sym seen ∙ e in absurd (cc) in (
-      λ none.
-          let n = no_rest (length read) (frames_there read) line.reader.rest (took.over closed).1 (took.rest seen) none in
-          record {
-            read = read;
-            gave = gave;
-            more = false;
-            over = λ _ live. over live;
-            died = λ dead. absurd (alive dead);
-            report = λ rest follow. all.report (read ++ rest) (alone line.reader.ending read rest follow);
-            ends = (alive, refl, n.0, n.1);
-            took = λ other rest follow. alone_took own read line old new all rest follow;
-            stopped = λ e. absurd (cc);
-          },
-      λ some.
-          let n = some_rest (length read) (frames_there read) line.reader.rest (took.over closed).1 (took.rest seen) some in
-          record {
-            read = read;
-            gave = gave;
-            more = false;
-            over = λ _ live. over live;
-            died = λ dead. absurd (alive dead);
-            report = λ rest follow. all.report (read ++ rest) (alone line.reader.ending read rest follow);
-            ends = (alive, λ rest follow. subst LeavesBytes (sym (ap (λ xs. read ++ xs) follow ∙ append-nil read)) n.0, n.1);
-            took = λ other rest follow. alone_took own read line old new all rest follow;
-            stopped = λ e. absurd (cc);
-          },
-    )
-
--- how the command ends with an answer
-pub turns_end : (ended : Ended) (own : Tributary) (first was now : InView) (t : ℕ) (tap : TapView) (old new : Option (List ℕ)) → (h : TurnsSoFar own first was t tap old new)
-    → t ≤ 16384 → ((available : List ℕ) → MayBe false tap.line.reader.ending h.read available → (has_ended (line_state 8 (mfas_of available) t) ≡ true) ⊎ (t ≡ 16384))
-    → tap.line.pieces ≡ 0 → AnswerRun tap.line was now ended → PullEnded own first now old new ended
-turns_end Done own first was now t tap old new h few last none a = by_end a.ends.2
-  where
-    all : AllTurns own h.read tap.line old new
-    all = all_turns own first was t tap old new h few last none
-
-    gave : Gave first h.read now
-    gave = subst (λ xs. Gave first xs now) (ap (λ xs. h.read ++ xs) a.ends.1 ∙ append-nil h.read) (gave_twice first was now h.read a.further h.stands.line.gave a.gave)
-
-    by_end : ((tap.line.reader.ending ≡ Seen) × (tap.line.reader.rest ≡ 0) × (now ≡ was)) ⊎ ((tap.line.reader.ending ≢ Seen) × HasEnded now.left now.ended) → PullEnded own first now old new Done
-    by_end (inl s) =
-        let closed : tap.line.reader.ending ≢ Open = λ e. let f : Seen ≡ Open = sym s.0 ∙ e in absurd (cc) in
-        (seen_ends own first now h.read tap.line old new all gave a.ends.0 (λ live. subst (λ (v : InView). HasEnded v.left v.ended) (sym s.2) (h.stands.line.over closed (ap (λ (v : InView). v.state) (sym s.2) ∙ live))) s.0).0 s.1
-    by_end (inr u) =
-        let alive = was_alive was now a.further a.gave a.ends.0 in
-        let open_now = open_is tap.line.reader.ending u.0 (λ died. alive (h.stands.line.ending.died died)) in
-        let n = whole_frames_only (length h.read) (frames_there h.read) ((all.took h.read (itself tap.line.reader.ending h.read)).still open_now).0 in
-        record {
-          read = h.read;
-          gave = gave;
-          more = false;
-          over = λ _ live. u.1;
-          died = λ dead. absurd (a.ends.0 dead);
-          report = λ rest follow. all.report (h.read ++ rest) (alone tap.line.reader.ending h.read rest follow);
-          ends = (a.ends.0, refl, n.0, n.1);
-          took = λ other rest follow. alone_took own h.read tap.line old new all rest follow;
-          stopped = λ e. absurd (cc);
-        }
-turns_end Unfinished own first was now t tap old new h few last none a = by_end a.ends.1
-  where
-    all : AllTurns own h.read tap.line old new
-    all = all_turns own first was t tap old new h few last none
-
-    by_end : ((tap.line.reader.ending ≡ Seen) × (0 < tap.line.reader.rest) × (a.further ≡ []) × (now ≡ was)) ⊎ ((tap.line.reader.ending ≢ Seen) × (length a.further ≡ 1)) → PullEnded own first now old new Unfinished
-    by_end (inl s) =
-        let closed : tap.line.reader.ending ≢ Open = λ e. let f : Seen ≡ Open = sym s.0 ∙ e in absurd (cc) in
-        let gave = subst (λ xs. Gave first xs now) (ap (λ xs. h.read ++ xs) s.2 ∙ append-nil h.read) (gave_twice first was now h.read a.further h.stands.line.gave a.gave) in
-        (seen_ends own first now h.read tap.line old new all gave a.ends.0 (λ live. subst (λ (v : InView). HasEnded v.left v.ended) (sym s.3) (h.stands.line.over closed (ap (λ (v : InView). v.state) (sym s.3) ∙ live))) s.0).1 s.1
-    by_end (inr u) =
-        let alive = was_alive was now a.further a.gave a.ends.0 in
-        let open_now = open_is tap.line.reader.ending u.0 (λ died. alive (h.stands.line.ending.died died)) in
-        let may : (rest : List ℕ) → MayBe false tap.line.reader.ending h.read ((h.read ++ a.further) ++ rest)
-        = λ rest. record { rest = a.further ++ rest; over = λ closed. absurd (closed open_now); parts = append_assoc h.read a.further rest } in
-        let wanted : (rest : List ℕ) → (length h.read ≡ 16320 * frames_there ((h.read ++ a.further) ++ rest))
-        × (frames_there ((h.read ++ a.further) ++ rest) ≡ frames_wanted ((h.read ++ a.further) ++ rest))
-        = λ rest. (all.took ((h.read ++ a.further) ++ rest) (may rest)).still open_now in
-        let size : length (h.read ++ a.further) ≡ length h.read + 1 = length-append h.read a.further ∙ ap (λ n. length h.read + n) u.1 in
-        record {
-          read = h.read ++ a.further;
-          gave = gave_twice first was now h.read a.further h.stands.line.gave a.gave;
-          more = true;
-          over = λ e. absurd (cc);
-          died = λ dead. absurd (a.ends.0 dead);
-          report = λ rest follow. all.report ((h.read ++ a.further) ++ rest) (may rest);
-          ends = (
-            a.ends.0,
-            λ rest follow. omega (arith, (wanted rest).0, size, length-append (h.read ++ a.further) rest),
-            one_byte (length h.read) (length (h.read ++ a.further)) (frames_there ((h.read ++ a.further) ++ [])) (wanted []).0 size,
-          );
-          took = λ other rest follow.
-              let all : length (h.read ++ a.further) ≤ length ((h.read ++ a.further) ++ rest) = omega (arith, length-append (h.read ++ a.further) rest) in
-              more_least (length h.read) (length (h.read ++ a.further)) (length ((h.read ++ a.further) ++ rest)) (frames_wanted ((h.read ++ a.further) ++ rest))
-              ((wanted rest).0 ∙ ap (λ n. 16320 * n) (wanted rest).1) size all;
-          stopped = λ e. absurd (cc);
-        }
-turns_end Cut own first was now t tap old new h few last none a =
-    let all = all_turns own first was t tap old new h few last none in
+pub pull_stops : (origin last : Pulling) (was is : SinkView) (first now : InView) → (h : WalkLost plain_otu2 first now last.tap.line (PullLost origin last was is))
+    → PullEnded (own_of origin) first now was.got is.got ReportFault
+pull_stops origin last was is first now h =
+    let own = own_of origin in
+    let left = line_stops plain_otu2 first now h.read (h.t + 1) last.tap.line h.stands in
     record {
-      read = h.read;
-      gave = subst (λ xs. Gave first xs now) (ap (λ xs. h.read ++ xs) a.ends.1 ∙ append-nil h.read) (gave_twice first was now h.read a.further h.stands.line.gave a.gave);
-      more = false;
-      over = λ _ live. let e : Dead ≡ Live = sym a.ends.0 ∙ live in absurd (cc);
-      died = λ dead. unended a.ends.2 dead;
-      report = λ rest follow. all.report (h.read ++ rest) (alone tap.line.reader.ending h.read rest follow);
-      ends = a.ends.0;
-      took = λ other rest follow. alone_took own h.read tap.line old new all rest follow;
-      stopped = λ e. absurd (cc);
+      read = left.read;
+      gave = left.gave;
+      more = left.more;
+      over = left.over;
+      died = left.died;
+      report = λ rest follow.
+          let available = left.read ++ rest in
+          let may = left.may rest follow in
+          let turn = part_after was.got (after was.got (emitted_until own available h.t)) is.got (emitted_until own available h.t) (emitted_at own available h.t) refl (h.lost available may).wrote in
+          let all = written_first own available (h.t + 1) (let few = h.few in omega (arith, few)) (h.unended available may) in
+          subst (GainsPart was.got is.got) (sym all.1) (part_before was.got is.got (emitted_until own available (h.t + 1)) all.0 (subst (GainsPart was.got is.got) (sym (emitted_more own available h.t)) turn));
+      ends = tt;
+      took = λ other. absurd (other refl);
+      stopped = λ _. (
+        h.t,
+        λ rest follow.
+            let available = left.read ++ rest in
+            let may = left.may rest follow in
+            record {
+              few = h.few;
+              unended = λ s within. h.unended available may s (omega (arith, within));
+              last = ap length (left.same refl) ∙ took_least (wanted 8 (mfas_of available) (h.t + 1)) available h.read last.tap.line.reader (subst (λ xs. length xs ≤ length available) (left.same refl) (within left.read rest)) (took_turns 8 available h.read (h.t + 1) last.tap.line (omega arith) (h.stands.is_line available may) h.between);
+              gained = (h.lost available may).wrote;
+            },
+      );
     }
-  where
-    unended : ((now ≡ was) ⊎ ((tap.line.reader.ending ≢ Seen) × (now.ended ≡ was.ended))) → DiedUnended first now
-    unended (inl same) dead = ap (λ (v : InView). v.ended) same ∙ died_unended plain_otu2 first was h.read t tap.line h.stands.line (sym (ap (λ (v : InView). v.state) same) ∙ dead)
-    unended (inr asked) dead = asked.1 ∙ h.stands.line.unended asked.0
-turns_end ReportFault own first was now t tap old new h few last none a = absurd a.ends
-turns_end Memory own first was now t tap old new h few last none a = absurd a.ends
+
+-- bytes are left or not, by how many were taken
+none_left : (n w m : ℕ) → n % 16320 ≡ 0 → n ≡ min n (16320 * w + 1) → m ≡ n / 16320 → 16320 * min m w < n → ⊥
+none_left n w m a b c less = omega (arith, a, b, c, less)
+
+some_left : (n l w m : ℕ) → 0 < n % 16320 → n ≡ min l (16320 * w + 1) → m ≡ l / 16320 → 16320 * min m w < l
+some_left n l w m a b c = omega (arith, a, b, c)
+
+ends_as : (ended : Ended) (ending : Ending) (more : Bool) (read : List ℕ) (now : InView) → LeftAs ended ending more read now
+    → (ended ≢ ReportFault → (rest : List ℕ) → MayFollow more rest → length read ≡ bytes_read 8 (read ++ rest)) → PullEnds ended more read now
+ends_as Done ending more read now h took =
+    let all : length read ≡ bytes_read 8 read = subst (λ xs. length read ≡ bytes_read 8 xs) (append-nil read) (took (λ e. cc) [] (subst (λ b. MayFollow b []) (sym h.1) refl)) in
+    (h.0, h.1, none_left (length read) (frames_wanted 8 read) (length (mfas_of read)) h.2 all (length_mfas read), h.2)
+ends_as Unfinished ending more read now h took = (
+  h.0,
+  λ rest follow. some_left (length read) (length (read ++ rest)) (frames_wanted 8 (read ++ rest)) (length (mfas_of (read ++ rest))) h.1 (took (λ e. cc) rest follow) (length_mfas (read ++ rest)),
+  h.1,
+)
+ends_as Cut ending more read now h took = h
+ends_as ReportFault ending more read now h took = tt
+ends_as Memory ending more read now h took = h
+
+reports : (ended : Ended) (old new : Option (List ℕ)) (bytes : List ℕ) → ended ≢ ReportFault → new ≡ after old bytes → Reports (line_status ended) old new bytes
+reports Done old new bytes other e = e
+reports Unfinished old new bytes other e = e
+reports Cut old new bytes other e = e
+reports ReportFault old new bytes other e = absurd (other refl)
+reports Memory old new bytes other e = e
+
+-- after the last turn
+pub pull_ends : (ended : Ended) (origin last : Pulling) (was is : SinkView) (first place now : InView) (t : ℕ) → (h : WalkDone plain_otu2 first place t last.tap.line (PullHolds origin last was is))
+    → WalkEnds (is_seen last.tap.line.reader.ending) last.tap.line.reader.rest place now ended → ended ≢ ReportFault → PullEnded (own_of origin) first now was.got is.got ended
+pull_ends ended origin last was is first place now t h w other =
+    let left = line_ends plain_otu2 first place now t last.tap.line (PullHolds origin last was is) ended h w in
+    record {
+      read = left.read;
+      gave = left.gave;
+      more = left.more;
+      over = left.over;
+      died = left.died;
+      report = λ rest follow.
+          let available = left.read ++ rest in
+          let may = left.may rest follow in
+          reports ended was.got is.got (pull_report (own_of origin) available) other
+          ((h.walked.holds available may).wrote ∙ ap (after was.got) (sym (written_all (own_of origin) available t h.few (h.unended available may) (h.last available may))));
+      ends = ends_as ended last.tap.line.reader.ending left.more left.read now left.ends left.took;
+      took = left.took;
+      stopped = λ e. absurd (other e);
+    }
 
 -- ---- the report
 
--- the last answer is no write
-pub never_written : (answer : Ended) (line : LineView) (was now : InView) (old new : SinkView) → AnswerRun line was now answer → ReportAfter None old new → ReportAfter (Some answer) old new
-never_written Done line was now old new a h = record { later = h.later; faults = h.faults }
-never_written Unfinished line was now old new a h = record { later = h.later; faults = h.faults }
-never_written Cut line was now old new a h = record { later = h.later; faults = h.faults }
-never_written ReportFault line was now old new a h = absurd a.ends
-never_written Memory line was now old new a h = absurd a.ends
+pub report_kept : (origin last : Pulling) (was is : SinkView) (first place : InView) (t : ℕ) → (h : WalkDone plain_otu2 first place t last.tap.line (PullHolds origin last was is)) → ReportAfter None was is
+report_kept origin last was is first place t h = (h.walked.holds h.read (itself last.tap.line.reader.ending h.read)).report
 
--- nor does the command end for want of memory, once its turns are begun
-pub pull_has_memory : (ended : Ended) (own : Tributary) (first now : InView) (old new : Option (List ℕ)) → PullEnded own first now old new ended → ended ≢ Memory
-pull_has_memory Done own first now old new h = λ e. cc
-pull_has_memory Unfinished own first now old new h = λ e. cc
-pull_has_memory Cut own first now old new h = λ e. cc
-pull_has_memory ReportFault own first now old new h = λ e. cc
-pull_has_memory Memory own first now old new h = absurd h.ends
+pub report_lost : (origin last : Pulling) (was is : SinkView) (first now : InView) → (h : WalkLost plain_otu2 first now last.tap.line (PullLost origin last was is)) → ReportAfter (Some ReportFault) was is
+report_lost origin last was is first now h = (h.lost h.read (itself last.tap.line.reader.ending h.read)).report
+
+-- the last answer is no write
+pub never_written : (answer : Ended) (old new : SinkView) → answer ≢ ReportFault → ReportAfter None old new → ReportAfter (Some answer) old new
+never_written Done old new other h = record { later = h.later; faults = h.faults }
+never_written Unfinished old new other h = record { later = h.later; faults = h.faults }
+never_written Cut old new other h = record { later = h.later; faults = h.faults }
+never_written ReportFault old new other h = absurd (other refl)
+never_written Memory old new other h = record { later = h.later; faults = h.faults }

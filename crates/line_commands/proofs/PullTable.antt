@@ -8,9 +8,10 @@ use Rattle.tributary_model.specs.Places.{Tributary}
 use Rattle.line_commands.specs.LineAnswers.{LineAnswers, PullRan}
 use Rattle.command_base.specs.Device.{Device, line_zero}
 use Rattle.command_base.specs.Ends.{line_status}
-use Rattle.line_commands.specs.PullReport.{LeavesBytes, bytes_read, pull_report}
+use Rattle.line_commands.specs.PullReport.{LeavesBytes, pull_report}
 use Rattle.line_commands.specs.PullRuns.{PullEnded}
-use Rattle.line_commands.specs.PullReport.{MayFollow, StoppedInTurn}
+use Rattle.line_commands.specs.PullReport.{StoppedInTurn}
+use Rattle.tributary_line.specs.TurnsDone.{MayFollow, bytes_read}
 use Rattle.command_base.specs.AnswerWords.{IsWell, Reports}
 use Rattle.port_base.specs.declared.ended.Ended.{Ended}
 use Rattle.port_base.specs.declared.ended.Ended.TheVariants.{Done, Unfinished, Cut, ReportFault, Memory}
@@ -137,10 +138,10 @@ pull_counted own old new answer h other below =
 
 -- how many bytes were taken, by Given
 pub pull_took : (own : Tributary) (old new : Device) (answer : Status) (available : List ℕ) → PullRan own old new answer → answer ≢ status.ReportFault
-    → HadToGive (line_zero old) (line_zero new) available → (line_zero new).number < 2 ^ 64 - 1 → (line_zero new).number - (line_zero old).number ≡ bytes_read available
+    → HadToGive (line_zero old) (line_zero new) available → (line_zero new).number < 2 ^ 64 - 1 → (line_zero new).number - (line_zero old).number ≡ bytes_read 8 available
 pull_took own old new answer available h other is below =
     let f = followed own old new answer available h is in
-    taken_by_number (line_zero old) (line_zero new) h.read h.gave below ∙ h.took other f.rest f.follows ∙ ap (λ xs. bytes_read xs) (sym f.parts)
+    taken_by_number (line_zero old) (line_zero new) h.read h.gave below ∙ h.took other f.rest f.follows ∙ ap (bytes_read 8) (sym f.parts)
 
 -- how it stopped, by Given
 pub pull_stopped : (own : Tributary) (old new : Device) (available : List ℕ) → PullRan own old new status.ReportFault → HadToGive (line_zero old) (line_zero new) available

@@ -1,102 +1,20 @@
 -- The turns that `pull` writes, as they are done.
-use Rattle.std.proofs.Common.{◌≡◌, ◌<◌, ◌≤◌, ◌+◌, ◌-◌, ◌∙◌, ◌⊎◌, inl, inr, ℕ, zero, suc, Bool, true, false, cond, not, List, [], ◌∷◌, ◌++◌, length, filter, refl, ap, subst, arith, append-nil}
+use Rattle.std.proofs.Common.{◌≡◌, ◌<◌, ◌≤◌, ◌∙◌, ◌⊎◌, ℕ, true, false, List, ◌++◌, ap}
 use Rattle.std.specs.List.{flat_map, range_with_len}
 use Rattle.std.proofs.lemmas.Grind.{flat_map-append}
-use Rattle.std.proofs.lemmas.List.FromFn.{length-range_with_len}
 use Rattle.line_side.specs.LineFile.{mfas_of}
-use Rattle.multiframe.specs.LineTurns.{LineState, Hunting, Locked, Ended, line_state, after_turn, has_ended}
+use Rattle.multiframe.specs.LineTurns.{line_state, has_ended}
 use Rattle.tributary_model.specs.Places.{Tributary}
 use Rattle.device_model.specs.LineViews.{emitted_at}
-use Rattle.line_commands.specs.PullReport.{turns_of, pull_report}
-
--- ---- numbers that pass a test
-
--- of the numbers from a on, the first n of which pass, what passes is these and what passes of those from b on
-passes_first : (p : ℕ → Bool) (a b n more most : ℕ) → most ≡ n + more → b ≡ a + n → ((x : ℕ) → a ≤ x → x < b → p x ≡ true)
-    → filter p (range_with_len a most) ≡ range_with_len a n ++ filter p (range_with_len b more)
-passes_first p a b zero more most e f all =
-    let same : most ≡ more = omega arith in
-    let here : a ≡ b = omega arith in
-    ap (λ k. filter p (range_with_len a k)) same ∙ ap (λ k. filter p (range_with_len k more)) here
-passes_first p a b (suc n) more most e f all =
-    let one : most ≡ suc (n + more) = omega arith in
-    let rest = filter p (range_with_len (a + 1) (n + more)) in
-    let later = passes_first p (a + 1) b n more (n + more) refl (omega arith) (λ x low high. all x (omega arith) high) in
-    ap (λ k. filter p (range_with_len a k)) one ∙ ap (λ t. cond t (a ∷ rest) rest) (all a (omega arith) (omega arith)) ∙ ap (λ xs. a ∷ xs) later
-
--- none passes
-passes_none : (p : ℕ → Bool) (a n : ℕ) → ((x : ℕ) → a ≤ x → p x ≡ false) → filter p (range_with_len a n) ≡ []
-passes_none p a zero none = refl
-passes_none p a (suc n) none =
-    let rest = filter p (range_with_len (a + 1) n) in
-    ap (λ t. cond t (a ∷ rest) rest) (none a (omega arith)) ∙ passes_none p (a + 1) n (λ x low. none x (omega arith))
-
--- ---- turns
-
--- of the first turns, as many as this, those before which the line has not ended
-turns_within : (most : ℕ) → List ℕ → List ℕ
-turns_within most ms = filter (λ t. not (has_ended (line_state 8 ms t))) (range_with_len 0 most)
-
--- as many as may be
-turns_of_is : (ms : List ℕ) → turns_of ms ≡ turns_within 16384 ms
-unfolding turns_of turns_within
-turns_of_is ms = refl
-
--- a turn leaves a line ended
-after_ended : (ms : List ℕ) (st : LineState) → has_ended st ≡ true → has_ended (after_turn 8 ms st) ≡ true
-after_ended ms (Hunting i) e = absurd (cc)
-after_ended ms (Locked lock) e = absurd (cc)
-after_ended ms Ended e = refl
-
--- a line that has ended stays so
-pub stays_ended : (ms : List ℕ) (n k t : ℕ) → t ≡ n + k → has_ended (line_state 8 ms n) ≡ true → has_ended (line_state 8 ms t) ≡ true
-unfolding line_state
-stays_ended ms n zero t e ended = let same : n ≡ t = omega arith in subst (λ i. has_ended (line_state 8 ms i) ≡ true) same ended
-stays_ended ms n (suc k) t e ended =
-    let next : suc (n + k) ≡ t = omega arith in
-    subst (λ i. has_ended (line_state 8 ms i) ≡ true) next (after_ended ms (line_state 8 ms (n + k)) (stays_ended ms n k (n + k) refl ended))
-
--- the first of them, before which the line has not ended
-within_first : (most : ℕ) (ms : List ℕ) (n : ℕ) → n ≤ most → ((s : ℕ) → s < n → has_ended (line_state 8 ms s) ≡ false)
-    → turns_within most ms ≡ range_with_len 0 n ++ filter (λ t. not (has_ended (line_state 8 ms t))) (range_with_len n (most - n))
-unfolding turns_within
-within_first most ms n few going = passes_first (λ t. not (has_ended (line_state 8 ms t))) 0 n n (most - n) most (omega arith) (omega arith)
-    (λ x low high. ap not (going x high))
-
--- all of them, where the line has ended after them or they are as many as may be
-within_all : (most : ℕ) (ms : List ℕ) (n : ℕ) → n ≤ most → ((s : ℕ) → s < n → has_ended (line_state 8 ms s) ≡ false)
-    → (has_ended (line_state 8 ms n) ≡ true) ⊎ (n ≡ most) → turns_within most ms ≡ range_with_len 0 n
-within_all most ms n few going last =
-    within_first most ms n few going ∙ ap (λ xs. range_with_len 0 n ++ xs) (none_after last) ∙ append-nil (range_with_len 0 n)
-  where
-    none_after : (has_ended (line_state 8 ms n) ≡ true) ⊎ (n ≡ most) → filter (λ t. not (has_ended (line_state 8 ms t))) (range_with_len n (most - n)) ≡ []
-    none_after (inl ended) = passes_none (λ t. not (has_ended (line_state 8 ms t))) n (most - n)
-        (λ x low. ap not (stays_ended ms n (x - n) x (omega arith) ended))
-    none_after (inr all) = let none : most - n ≡ 0 = omega arith in ap (λ k. filter (λ t. not (has_ended (line_state 8 ms t))) (range_with_len n k)) none
-
--- the first turns of a line, before none of which it has ended
-pub turns_first : (ms : List ℕ) (n : ℕ) → n ≤ 16384 → ((s : ℕ) → s < n → has_ended (line_state 8 ms s) ≡ false)
-    → (rest : List ℕ) × (turns_of ms ≡ range_with_len 0 n ++ rest)
-turns_first ms n few going = (filter (λ t. not (has_ended (line_state 8 ms t))) (range_with_len n (16384 - n)), turns_of_is ms ∙ within_first 16384 ms n few going)
-
--- all turns, where the line has ended after them or they are as many as may be
-pub turns_all : (ms : List ℕ) (n : ℕ) → n ≤ 16384 → ((s : ℕ) → s < n → has_ended (line_state 8 ms s) ≡ false)
-    → (has_ended (line_state 8 ms n) ≡ true) ⊎ (n ≡ 16384) → turns_of ms ≡ range_with_len 0 n
-turns_all ms n few going last = turns_of_is ms ∙ within_all 16384 ms n few going last
-
--- how many these are
-pub turn_count : (ms : List ℕ) (n : ℕ) → n ≤ 16384 → ((s : ℕ) → s < n → has_ended (line_state 8 ms s) ≡ false)
-    → (has_ended (line_state 8 ms n) ≡ true) ⊎ (n ≡ 16384) → length (turns_of ms) ≡ n
-turn_count ms n few going last = ap length (turns_all ms n few going last) ∙ length-range_with_len 0 n
-
--- ---- what is written
+use Rattle.tributary_line.proofs.TurnsDone.{turns_first, turns_all}
+use Rattle.line_commands.specs.PullReport.{pull_report}
 
 -- what is written begins with what the sink emits in the first turns
 pub written_first : (own : Tributary) (available : List ℕ) (n : ℕ) → n ≤ 16384 → ((s : ℕ) → s < n → has_ended (line_state 8 (mfas_of available) s) ≡ false)
     → (rest : List ℕ) × (pull_report own available ≡ flat_map (emitted_at own available) (range_with_len 0 n) ++ rest)
 unfolding pull_report
 written_first own available n few going =
-    let turns = turns_first (mfas_of available) n few going in (
+    let turns = turns_first 8 (mfas_of available) n few going in (
       flat_map (emitted_at own available) turns.0,
       ap (flat_map (emitted_at own available)) turns.1 ∙ flat_map-append (emitted_at own available) (range_with_len 0 n) turns.0,
     )
@@ -105,4 +23,4 @@ written_first own available n few going =
 pub written_all : (own : Tributary) (available : List ℕ) (n : ℕ) → n ≤ 16384 → ((s : ℕ) → s < n → has_ended (line_state 8 (mfas_of available) s) ≡ false)
     → (has_ended (line_state 8 (mfas_of available) n) ≡ true) ⊎ (n ≡ 16384) → pull_report own available ≡ flat_map (emitted_at own available) (range_with_len 0 n)
 unfolding pull_report
-written_all own available n few going last = ap (flat_map (emitted_at own available)) (turns_all (mfas_of available) n few going last)
+written_all own available n few going last = ap (flat_map (emitted_at own available)) (turns_all 8 (mfas_of available) n few going last)

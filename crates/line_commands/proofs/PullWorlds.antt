@@ -8,7 +8,8 @@ use Rattle.tributary_model.specs.Places.{Tributary}
 use Rattle.device_model.proofs.LineViews.{same_emitted}
 use Rattle.device_model.specs.Agreements.{AgreeOnTributary}
 use Rattle.device_model.specs.LineViews.{emitted_at}
-use Rattle.line_commands.specs.PullReport.{tributary, turns_of, pull_report}
+use Rattle.line_commands.specs.PullReport.{tributary, pull_report}
+use Rattle.tributary_line.specs.TurnsDone.{turns_of}
 
 -- eight slots share the payload columns evenly
 pub is_tributary : (port : ℕ) (slots : List ℕ) → IsSlotList 8 slots → IsTributary (tributary port slots)
@@ -23,8 +24,8 @@ same_flat f g (x ∷ xs) same = ap (λ ys. ys ++ flat_map f xs) (same x) ∙ ap 
 same_written : (own : Tributary) (one other : List ℕ) → IsTributary own → AgreeOnTributary own one other → pull_report own one ≡ pull_report own other
 unfolding pull_report
 same_written own one other is agree =
-    same_flat (emitted_at own one) (emitted_at own other) (turns_of (mfas_of one)) (λ t. same_emitted own one other t is agree)
-    ∙ ap (λ ms. flat_map (emitted_at own other) (turns_of ms)) agree.mfas
+    same_flat (emitted_at own one) (emitted_at own other) (turns_of 8 (mfas_of one)) (λ t. same_emitted own one other t is agree)
+    ∙ ap (λ ms. flat_map (emitted_at own other) (turns_of 8 ms)) agree.mfas
 
 -- lines that agree on a tributary give one report
 pub same_pull : (port : ℕ) (slots one other : List ℕ) → IsSlotList 8 slots → AgreeOnTributary (tributary port slots) one other

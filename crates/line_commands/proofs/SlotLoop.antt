@@ -17,7 +17,7 @@ use Rattle.command_base.specs.Gains.{GainsPart}
 use Rattle.command_base.specs.Beyond.{ByteRun}
 use Rattle.port_base.specs.declared.ended.Ended.{Ended}
 use Rattle.port_base.specs.declared.ended.Ended.TheVariants.{Done, Unfinished, Cut, ReportFault, Memory}
-use Rattle.line_commands.proofs.LineFrames.{last_frame, slot_report-at, slot_report-whole, until-append, until-further, until-more, until-none, used-at}
+use Rattle.line_commands.proofs.LineFrames.{last_frame, slot_report-at, slot_report-whole, until-append, until-more, until-none, used-at}
 
 -- after i whole frames
 pub record SoFar (slot i : ℕ) (first now : InView) (old new : Option (List ℕ)) : Type 0 where

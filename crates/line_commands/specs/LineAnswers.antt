@@ -1,6 +1,6 @@
 -- Believed: what the commands over line input 0 answer for, over all that they are handed: as it was, and as it is.
 use Rattle.std.specs.Prelude.{◌≡◌, ◌≢◌, ◌<◌, ◌≤◌, ◌%◌, ◌⊎◌, ◌↔◌, ℕ, Bool, false, List, ◌++◌, length}
-use Rattle.otn_base.specs.declared.limits.TheConstants.{LINE_FRAME_BYTES}
+use Rattle.otn_base.specs.declared.limits.TheConstants.{LINE_FRAME_BYTES, OTU2_SLOTS}
 use Rattle.port_base.specs.Given.{Gave, DiedUnended}
 use Rattle.port_base.specs.Reads.{HasEnded}
 use Rattle.port_base.specs.Views.{Live, Dead}
@@ -9,7 +9,8 @@ use Rattle.command_base.specs.Device.{Device, OnlyLine, line_zero}
 use Rattle.command_base.specs.AnswerWords.{CountsBy, Reports, IsLineAnswer}
 use Rattle.command_base.specs.declared.status.Status.{Status}
 use Rattle.command_base.specs.declared.status.Status.TheVariants.{Unfinished, ReportFault, Cut, Memory}
-use Rattle.line_commands.specs.PullReport.{LeavesBytes, bytes_read, pull_report, MayFollow, StoppedInTurn}
+use Rattle.tributary_line.specs.TurnsDone.{MayFollow, bytes_read}
+use Rattle.line_commands.specs.PullReport.{LeavesBytes, pull_report, StoppedInTurn}
 use Rattle.line_commands.specs.SlotReport.{HasBytesBehind, slot_report, most_read_of_line, StoppedInFrame}
 
 -- ---- a command over line input 0, by what it is to have done once there was memory
@@ -73,7 +74,8 @@ pub record PullRan (own : Tributary) (old new : Device) (status : Status) : Type
   pub counted : status ≢ ReportFault → (status ≡ Unfinished) ↔
       (((line_zero new).state ≢ Dead) × (0 < length read % LINE_FRAME_BYTES))
   -- as many bytes were taken as the turns want and one more, or all that there are
-  pub took : status ≢ ReportFault → (rest : List ℕ) → MayFollow more rest → length read ≡ bytes_read (read ++ rest)
+  pub took : status ≢ ReportFault → (rest : List ℕ) → MayFollow more rest
+      → length read ≡ bytes_read OTU2_SLOTS (read ++ rest)
   -- and where a write failed, that ended the command at once, with the turn whose bytes were being written the last
   pub stopped : status ≡ ReportFault
       → (t : ℕ) × ((rest : List ℕ) → MayFollow more rest

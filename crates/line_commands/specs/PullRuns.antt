@@ -1,12 +1,13 @@
 -- API: how `pull` goes: what it took of its line, what its report gained, and why it ended.
 use Rattle.std.specs.Prelude.{◌≡◌, ◌≢◌, ◌<◌, ◌%◌, ℕ, Bool, false, List, ◌++◌, Option, length}
-use Rattle.otn_base.specs.declared.limits.TheConstants.{LINE_FRAME_BYTES}
 use Rattle.port_base.specs.Given.{Gave, DiedUnended}
 use Rattle.port_base.specs.Reads.{HasEnded}
 use Rattle.port_base.specs.Views.{InView, Live, Dead}
 use Rattle.tributary_model.specs.Places.{Tributary}
 use Rattle.command_base.specs.Ends.{line_status}
-use Rattle.line_commands.specs.PullReport.{pull_report, LeavesBytes, bytes_read, MayFollow, StoppedInTurn}
+use Rattle.otn_base.specs.declared.limits.TheConstants.{LINE_FRAME_BYTES, OTU2_SLOTS}
+use Rattle.tributary_line.specs.TurnsDone.{MayFollow, bytes_read}
+use Rattle.line_commands.specs.PullReport.{pull_report, LeavesBytes, StoppedInTurn}
 use Rattle.command_base.specs.AnswerWords.{Reports}
 use Rattle.port_base.specs.declared.ended.Ended.{Ended}
 use Rattle.port_base.specs.declared.ended.Ended.TheVariants.{Done, Unfinished, Cut, ReportFault, Memory}
@@ -32,6 +33,7 @@ pub record PullEnded (own : Tributary) (first now : InView) (old new : Option (L
   pub report : (rest : List ℕ) → MayFollow more rest
       → Reports (line_status ended) old new (pull_report own (read ++ rest))
   pub ends : PullEnds ended more read now
-  pub took : ended ≢ ReportFault → (rest : List ℕ) → MayFollow more rest → length read ≡ bytes_read (read ++ rest)
+  pub took : ended ≢ ReportFault → (rest : List ℕ) → MayFollow more rest
+      → length read ≡ bytes_read OTU2_SLOTS (read ++ rest)
   pub stopped : ended ≡ ReportFault → (t : ℕ)
       × ((rest : List ℕ) → MayFollow more rest → StoppedInTurn own (read ++ rest) (length read) t old new)

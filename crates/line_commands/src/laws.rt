@@ -13,7 +13,8 @@ ghost use Rattle.line_commands.specs.LineAnswers.{PullRan, SlotRan};
 ghost use Rattle.line_commands.specs.OfAvailable.{OfAllAvailable, OfAvailable, OfRead};
 ghost use Rattle.line_commands.specs.PullCarried.{BeginsWithWhatIsCarried, IsTheWholeGroups, HasWhatIsCarriedAfterDamage};
 ghost use Rattle.line_commands.specs.PullDamaged.{WritesAsIfRepeated};
-ghost use Rattle.line_commands.specs.PullReport.{LeavesBytes, StoppedInTurn, bytes_read, pull_report, tributary};
+ghost use Rattle.line_commands.specs.PullReport.{LeavesBytes, StoppedInTurn, pull_report, tributary};
+ghost use Rattle.tributary_line.specs.TurnsDone.{bytes_read};
 ghost use Rattle.line_commands.specs.SlotReport.{HasBytesBehind, StoppedInFrame, most_read_of_line, slot_report};
 
 /// `slot`, by all bytes that line input 0 had to give, where it tells them: they are what is written of (`report`), and
@@ -53,7 +54,7 @@ pub fn pull_of_given()
         × (0 < ((line_zero new).number - (line_zero old).number) % LINE_FRAME_BYTES)) }
     ensures took { (own : Tributary) → OfAllAvailable (PullRan own) (λ old new answer available.
         (line_zero new).number < 2 ^ 64 - 1
-        → (line_zero new).number - (line_zero old).number ≡ bytes_read available) }
+        → (line_zero new).number - (line_zero old).number ≡ bytes_read OTU2_SLOTS available) }
     ensures stopped { (own : Tributary) → OfRead (PullRan own) (λ old new available read.
         (t : ℕ) × StoppedInTurn own available read t old.report.got new.report.got) }
 {}

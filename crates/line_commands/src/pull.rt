@@ -1,31 +1,30 @@
 // The command `pull`: what the sink of a tributary on a line emits, turn by turn.
-ghost use Rattle.std.specs.Prelude.{◌≡◌, ◌≢◌, ◌+◌, ◌*◌, ◌≤◌, ℕ, List, [], IfOk, Some, length, vec_len};
+ghost use Rattle.std.specs.Prelude.{◌≡◌, ◌≢◌, ◌≤◌, ℕ, List, IfOk, Some};
 ghost use Rattle.port_base.specs.InPlace.{in_view};
 ghost use Rattle.port_base.specs.Views.{InView};
-ghost use Rattle.tributary_model.specs.Places.{Tributary};
-ghost use Rattle.otn_base.specs.declared.limits.TheConstants.{GROUPS, OTU2_SLOTS};
-ghost use Rattle.port_base.specs.PortViews.{sink_view};
+ghost use Rattle.otn_base.specs.declared.limits.TheConstants.{OTU2_SLOTS};
+ghost use Rattle.port_base.specs.PortViews.{SinkView, sink_view};
+ghost use Rattle.tributary_model.specs.Places.{tributary_of};
+ghost use Rattle.port_base.specs.Writes.{Gains};
 ghost use Rattle.command_base.specs.Ends.{ReportAfter};
+ghost use Rattle.command_base.specs.Steps.Ends.{step_of};
+ghost use Rattle.line_side.specs.LineForm.{plain_otu2};
 ghost use Rattle.line_commands.specs.PullReport.{tributary};
-ghost use Rattle.tributary_line.specs.TapTurn.{TapStands, IsBetweenTurns};
-
-use command_base::ask_for_more;
-use line_side::UncountedLineIn;
-use otn_base::limits::{GROUPS, MOST_TURNS};
-use otn_base::{LineKind, Slots};
-use port_base::{Ended, InPlaceOf, Sink, Source, Written, write_whole};
-use std::alloc::{AllocError, Global};
-use tributary_line::Tap;
-
-// What comes after a turn.
-enum After {
-    NextTurn,
-    LineEnded,
-    ReportFailed,
-}
-
 ghost use Rattle.line_commands.specs.PullRuns.{PullEnded};
-ghost use Rattle.line_commands.specs.Steps.PullRuns.{TurnRun, AnswerRun, fault_of};
+ghost use Rattle.line_commands.specs.Steps.PullRuns.{IsReady, IsNew, own_of};
+
+use otn_base::limits::GROUPS;
+use otn_base::{LineKind, Memory, Slots};
+use port_base::{Ended, InPlaceOf, Sink, Source, Written, write_whole};
+use std::alloc::Global;
+use tributary_line::{After, Tap, Walker, after_turn, end_walk, walk};
+
+// A sink on the line, and room for what it emits in a turn: 15,233 bytes a slot.
+#[derive(Drop)]
+struct Pulling {
+    tap: Tap,
+    room: Vec<u8>,
+}
 
 /// Writes what a sink of these slots and this tributary port, 1 to 8, emits in each turn of the line, up to and with
 /// the turn in which the line ended, of 16,384 turns at most. Where its end was not seen and it is not dead, it is then
@@ -45,88 +44,76 @@ pub fn write_pull<I: Source, K: Sink>(
         (in_view I.Source line.new) (K.got report.old) (K.got report.new) result }
     ensures report { ReportAfter (Some result) (sink_view K.Sink report.old) (sink_view K.Sink report.new) }
 {
-    let Ok(mut tap) = Tap::new(alloc, port, slots) else {
+    let Ok(mut pulling) = new_pulling(alloc, port, slots) else {
         return Ended::Memory;
     };
-    let Ok(mut room) = turn_room(alloc, slots) else {
-        return Ended::Memory;
-    };
-    write_turns(&mut tap, line, report, &mut room)
+    write_turns(&mut pulling, line, report)
 }
 
-// Takes room for what a turn emits: 15,233 bytes a slot.
-fn turn_room(alloc: Global, slots: &Slots) -> Result<Vec<u8>, AllocError>
-    ensures { IfOk result (λ room. vec_len room ≡ length slots.now.list * (GROUPS + 1)) }
+// It, before the line's first turn.
+fn new_pulling(alloc: Global, port: u8, slots: &Slots) -> Result<Pulling, Memory>
+    requires low { 1 ≤ port }
+    requires high { port ≤ OTU2_SLOTS }
+    requires plain { slots.now.kind ≡ LineKind.Otu2 }
+    ensures ready { IfOk result IsReady }
+    ensures own { IfOk result (λ pulling. own_of pulling ≡ tributary_of slots.now port) }
+    ensures new { IfOk result IsNew }
 {
-    vec![in alloc; 0; slots.count() as usize * (GROUPS + 1)]
+    let tap = Tap::new(alloc, port, slots)?;
+    let room = vec![in alloc; 0; slots.count() as usize * (GROUPS + 1)]?;
+    Ok(Pulling { tap, room })
 }
 
-// The turns, with a sink before the first one and a buffer as large as its own.
+// The turns, and how the command ends.
 fn write_turns<I: Source, K: Sink>(
-    tap: &mut Tap,
+    pulling: &mut Pulling,
     line: &mut InPlaceOf<I>,
     report: &mut K,
-    room: &mut Vec<u8>,
 ) -> Ended
-    requires between { IsBetweenTurns tap.old }
-    requires room { vec_len room.old ≡ length tap.old.sink.slots.list * (GROUPS + 1) }
-    ensures run { (own : Tributary) → ((first : InView) → TapStands own first first [] 0 tap.old)
-        → PullEnded own (in_view I.Source line.old) (in_view I.Source line.new) (K.got report.old)
-        (K.got report.new) result }
+    requires ready { IsReady pulling.old }
+    requires new { IsNew pulling.old }
+    ensures run { PullEnded (own_of pulling.old) (in_view I.Source line.old) (in_view I.Source line.new)
+        (K.got report.old) (K.got report.new) result }
     ensures report { ReportAfter (Some result) (sink_view K.Sink report.old) (sink_view K.Sink report.new) }
+    ensures some { result ≢ Ended.Memory }
 {
-    for _ in 0..MOST_TURNS {
-        match write_turn(tap, line, report, room) {
-            After::NextTurn => {}
-            After::LineEnded => return answer(tap.line(), line),
-            After::ReportFailed => return Ended::ReportFault,
-        }
-    }
-    answer(tap.line(), line)
+    let Some(_) = walk(pulling, line, report) else {
+        return Ended::ReportFault;
+    };
+    let input = pulling.tap.line();
+    end_walk(input.end_seen(), input.rest(), line)
 }
 
-// Does a turn, writes what the sink emits in it, and says what comes after it.
-fn write_turn<I: Source, K: Sink>(
-    tap: &mut Tap,
-    line: &mut InPlaceOf<I>,
-    report: &mut K,
-    room: &mut Vec<u8>,
-) -> After
-    requires between { IsBetweenTurns tap.old }
-    requires room { vec_len room.old ≡ length tap.old.sink.slots.list * (GROUPS + 1) }
-    ensures run { (own : Tributary) (first : InView) (read : List ℕ) (t : ℕ)
-        → TapStands own first (in_view I.Source line.old) read t tap.old
-        → TurnRun own first (in_view I.Source line.new) read t tap.old tap.new (K.got report.old)
-        (K.got report.new) result }
-    ensures between { IsBetweenTurns tap.new }
-    ensures slots { tap.new.sink.slots ≡ tap.old.sink.slots }
-    ensures room_stays { vec_len room.new ≡ vec_len room.old }
-    ensures report { ReportAfter (fault_of result) (sink_view K.Sink report.old) (sink_view K.Sink report.new) }
+// Writes what the sink emits in a turn.
+fn write_emitted<K: Sink>(report: &mut K, bytes: &[u8]) -> Written
+    ensures got { Gains result (K.got report.old) bytes.now (K.got report.new) }
+    ensures report { ReportAfter (step_of result) (sink_view K.Sink report.old) (sink_view K.Sink report.new) }
 {
-    let emitted = tap.turn(line, room);
-    if write_whole(report, &room[emitted]) == Written::Lost {
-        return After::ReportFailed;
-    }
-    if tap.line().ended() {
-        After::LineEnded
-    } else {
-        After::NextTurn
-    }
+    write_whole(report, bytes)
 }
 
-// How the command ends after its last turn.
-fn answer<I: Source>(line: &UncountedLineIn, place: &mut InPlaceOf<I>) -> Ended
-    ensures { AnswerRun line.now (in_view I.Source place.old) (in_view I.Source place.new) result }
-{
-    if let InPlaceOf::Dead(..) = place {
-        return Ended::Cut;
-    }
-    if !line.end_seen() {
-        return ask_for_more(place);
-    }
-    if line.rest() == 0 {
-        Ended::Done
-    } else {
-        Ended::Unfinished
+impl Walker for Pulling {
+    ghost use Rattle.line_side.specs.LineForm.{plain_otu2};
+    ghost use Rattle.line_commands.specs.Steps.PullRuns.{IsReady, PullHolds, PullLost};
+
+    ghost form = { λ _. plain_otu2 };
+
+    ghost line = { λ p. p.tap.line };
+
+    ghost ready = { IsReady };
+
+    ghost holds = { PullHolds };
+
+    ghost lost = { PullLost };
+
+    fn turn<I: Source, K: Sink>(
+        &mut self,
+        _t: u32,
+        place: &mut InPlaceOf<I>,
+        report: &mut K,
+    ) -> After {
+        let emitted = self.tap.turn(place, &mut self.room);
+        let written = write_emitted(report, &self.room[emitted]);
+        after_turn(written, self.tap.line().ended())
     }
 }

@@ -19,6 +19,7 @@ pub use Rattle.line_commands.specs.PullReport
 pub use Rattle.line_commands.specs.PullRuns
 pub use Rattle.line_commands.specs.SlotReport
 pub use Rattle.line_commands.specs.SlotRuns
+pub use Rattle.tributary_line.specs.TurnsDone
 pub use Rattle.check_command.specs.PlanCheck
 pub use Rattle.check_command.specs.PlanReading
 pub use Rattle.run_report.specs.Steps.RunReport

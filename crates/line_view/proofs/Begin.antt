@@ -4,17 +4,13 @@ use Rattle.std.specs.Prelude.{map}
 use Rattle.std.specs.List.{flat_map}
 use Rattle.std.proofs.lemmas.Option.{slice_get_within}
 use Rattle.port_base.specs.Views.{InView}
-use Rattle.port_base.specs.declared.ended.Ended.{Ended}
-use Rattle.port_base.specs.declared.ended.Ended.TheVariants.{Done, Unfinished, Cut, ReportFault, Memory}
-use Rattle.port_base.specs.PortViews.{SinkView}
 use Rattle.line_side.specs.LineForm.{LineForm, size_of}
 use Rattle.line_side.specs.LineStands.{LineView, LineStands, frames_taken}
 use Rattle.tributary_model.specs.Places.{msi_in}
 use Rattle.trib_sink.specs.Sink.{StandsAfter}
 use Rattle.device_model.proofs.TurnFrames.{frames_none}
 use Rattle.device_model.specs.TurnFrames.{frames_in}
-use Rattle.line_view.specs.ViewRuns.{ViewEnded}
-use Rattle.line_view.specs.ViewText.{Showing, all_slots, views_from}
+use Rattle.line_view.specs.ViewText.{all_slots, views_from}
 use Rattle.line_view.specs.Steps.Viewing.{ViewStands, frames_by, taken_by}
 use Rattle.line_view.specs.Watching.{IsOnLine, asked_of}
 use Rattle.line_view.specs.Steps.Watching.{AreNew, IsNew, begun, own_of, showing_of}
@@ -70,11 +66,3 @@ view_begins form line shown watched pieces untaken kind stands new on first = re
       (subst (λ vs. StandsAfter (own_of one) vs [] one.sink) (sym (views_waits (own_of one) one.first available 0 (omega arith))) n.stands);
   msi_is = λ available may. sym (ap (flat_map (msi_in (all_slots form))) (ap (frames_in (size_of form) available 0) pieces ∙ frames_none (size_of form) available 0));
 }
-
--- a view does not end for want of memory, once it is begun
-pub view_has_memory : (ended : Ended) (form : LineForm) (shows : List Showing) (first now : InView) (old new : SinkView) → ViewEnded form shows first now old new ended → ended ≡ Memory → ⊥
-view_has_memory Done form shows first now old new h e = cc
-view_has_memory Unfinished form shows first now old new h e = cc
-view_has_memory Cut form shows first now old new h e = cc
-view_has_memory ReportFault form shows first now old new h e = cc
-view_has_memory Memory form shows first now old new h e = h.ends

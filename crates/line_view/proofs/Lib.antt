@@ -4,8 +4,6 @@ mod MsiBytes
 mod Pieces
 mod TurnMoving
 mod Texts
-mod TurnCount
-mod Wanting
 mod Runs
 mod Begin
 mod Telling

@@ -1,5 +1,5 @@
 -- The MSI bytes of the frames of a turn.
-use Rattle.std.proofs.Common.{◌≡◌, ◌≢◌, ◌<◌, ◌≤◌, ◌+◌, ◌-◌, ◌*◌, ◌∙◌, ℕ, zero, suc, Bool, true, false, List, [], ◌∷◌, ◌++◌, Option, Some, None, refl, sym, ap, subst, arith, append-nil}
+use Rattle.std.proofs.Common.{◌≡◌, ◌≢◌, ◌<◌, ◌≤◌, ◌+◌, ◌∙◌, ℕ, zero, suc, Bool, true, false, List, [], ◌∷◌, ◌++◌, Some, None, refl, ap, arith, append-nil}
 use Rattle.std.specs.Prelude.{if◌then◌else◌, is_some, ◌==◌}
 use Rattle.std.specs.List.{flat_map, range_with_len}
 use Rattle.std.proofs.lemmas.Bool.Decides.{nat_tests}
@@ -9,7 +9,6 @@ use Rattle.line_side.specs.LineFile.{mfas_of}
 use Rattle.multiframe.specs.LineTurns.{multiframe}
 use Rattle.tributary_model.specs.Places.{Tributary, Taken, byte_at, msi_at, msi_in, turn_view, view_of}
 use Rattle.device_model.proofs.TurnFrames.{turn_frames}
-use Rattle.device_model.specs.LineViews.{view_at}
 use Rattle.device_model.specs.TurnFrames.{frames_in}
 use Rattle.line_view.specs.ViewText.{all_slots, msi_at_turn, msi_shown}
 

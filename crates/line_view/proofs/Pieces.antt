@@ -16,7 +16,7 @@ use Rattle.trib_sink.specs.Sink.{Sink, StandsAfter}
 use Rattle.device_model.specs.TurnFrames.{member_of, frames_in}
 use Rattle.line_view.specs.ViewText.{all_slots, views_from}
 use Rattle.line_view.specs.Steps.Viewing.{HasSeen, IsInStep, ViewStands, ViewMoves, frames_by, taken_by}
-use Rattle.line_view.specs.Steps.Watching.{EachWatched, IsSame, TookFrame, begun, own_of}
+use Rattle.line_view.specs.Steps.Watching.{EachWatched, TookFrame, begun, own_of}
 use Rattle.line_view.specs.declared.watched.Watched.{Watched}
 use Rattle.line_view.proofs.Begun.{has_seen, seen_still}
 use Rattle.line_view.proofs.MsiBytes.{msi_more}

@@ -1,18 +1,12 @@
 -- The turns of a view, and how it ends.
-use Rattle.std.proofs.Common.{◌≡◌, ◌≢◌, ◌<◌, ◌≤◌, ◌+◌, ◌*◌, ◌%◌, ◌∙◌, ◌⊎◌, ℕ, zero, suc, Bool, true, false, List, [], ◌++◌, length, ltb, refl, sym, ap, subst, inl, inr, arith, append-nil, append_assoc, length-append}
-use Rattle.std.specs.Prelude.{map, ◌==◌, if◌then◌else◌, min}
+use Rattle.std.proofs.Common.{◌≡◌, ◌≢◌, ◌<◌, ◌≤◌, ◌+◌, ◌*◌, ◌∙◌, ◌⊎◌, ℕ, suc, Bool, true, false, List, [], ◌++◌, length, refl, sym, ap, subst, arith, append-nil, append_assoc}
+use Rattle.std.specs.Prelude.{IsTrue, ◌==◌, if◌then◌else◌, min}
 use Rattle.std.specs.List.{flat_map, range_with_len}
-use Rattle.std.proofs.lemmas.Bool.{ltb-true, ltb-false}
 use Rattle.std.proofs.lemmas.Bool.Decides.{nat_tests}
 use Rattle.std.proofs.lemmas.Grind.{flat_map-append}
-use Rattle.otn_base.specs.LineSlots.{slots_of}
-use Rattle.otn_base.specs.declared.line_kind.LineKind.{LineKind}
-use Rattle.otn_base.specs.declared.line_kind.LineKind.TheVariants.{Otu2, Otu3}
-use Rattle.port_base.proofs.GivenLaws.{gave_none, gave_twice}
-use Rattle.port_base.specs.Given.{Gave}
+use Rattle.port_base.proofs.GivenLaws.{gave_none}
 use Rattle.port_base.specs.PortViews.{SinkView, SinkWrites}
-use Rattle.port_base.specs.Reads.{HasEnded}
-use Rattle.port_base.specs.Views.{Live, Dead, InView}
+use Rattle.port_base.specs.Views.{InView}
 use Rattle.port_base.specs.declared.drain.Written.{Written}
 use Rattle.port_base.specs.declared.drain.Written.TheVariants as written
 use Rattle.port_base.specs.declared.ended.Ended.{Ended}
@@ -20,144 +14,129 @@ use Rattle.port_base.specs.declared.ended.Ended.TheVariants.{Done, Unfinished, C
 use Rattle.line_side.proofs.Frames.{length_parts}
 use Rattle.line_side.specs.LineFile.{mfas_of}
 use Rattle.line_side.specs.LineForm.{LineForm, size_of, through_mask}
-use Rattle.line_side.specs.LineStands.{LineView}
 use Rattle.line_side.specs.MayBe.{MayBe}
-use Rattle.line_side.specs.Reader.{EndedAs, ReaderView, rest_of}
+use Rattle.line_side.specs.Reader.{ReaderView, rest_of}
 use Rattle.line_side.specs.declared.ending.Ending.{Ending}
 use Rattle.line_side.specs.declared.ending.Ending.TheVariants.{Open, Seen, Died}
 use Rattle.multiframe.specs.LineTurns.{line_state, has_ended, wanted}
-use Rattle.line_view.specs.ViewRuns.{MayFollow, frames_wanted, bytes_read, ViewEnded, WriteFailed, text_before, text_part, turn_count}
-use Rattle.line_view.specs.Steps.ViewRuns.{lines_of, TurnRun, FinishRun}
-use Rattle.line_view.specs.ViewText.{Showing, head_line, end_line, turn_text, text_until, turns_of, view_text}
-use Rattle.line_view.specs.Steps.Viewing.{ViewStands}
-use Rattle.line_view.specs.Steps.Watching.{showing_of}
+use Rattle.device_model.specs.LineAsked.{is_seen}
+use Rattle.tributary_line.proofs.LineEndings.{line_ends, line_stops, some_frames}
+use Rattle.tributary_line.proofs.TurnsDone.{turns_first, turns_all, turns_count, turns_least}
+use Rattle.tributary_line.proofs.Wanting.{TookFrames, none_by_turns, took_least, took_turns}
+use Rattle.tributary_line.specs.TurnsDone.{turns_of}
+use Rattle.tributary_line.specs.Walking.{after_by, EndsWith, TurnHolds, Walked, TurnWalked, WalkDone, WalkLost, WalkEnds}
+use Rattle.line_view.specs.ViewRuns.{ViewEnded, text_part, turn_count, written_of}
+use Rattle.line_view.specs.Steps.ViewRuns.{IsNew, ViewHolds, ViewLost, form_in, lines_of, shows_in}
+use Rattle.line_view.specs.Steps.Viewing.{ViewStands, TurnMoves}
+use Rattle.line_view.specs.ViewText.{Showing, head_line, end_line, turn_text, text_until, view_text}
 use Rattle.line_view.specs.declared.told.TurnSeen.{TurnSeen}
-use Rattle.line_view.specs.declared.viewing.After.{After}
-use Rattle.line_view.specs.declared.viewing.After.TheVariants as next
-use Rattle.line_view.specs.declared.watched.Watched.{Watched}
+use Rattle.line_view.specs.declared.viewing.Viewing.{Viewing}
 use Rattle.line_view.proofs.Texts.{writes_none, writes_twice, part_of_more, lines_are, turns-more}
-use Rattle.line_view.proofs.Wanting.{TookFrames, none_by_turns, took_least, took_turns, took_wanted, closed_least, open_least, more_least}
-use Rattle.line_view.proofs.TurnCount.{turns_first, turns_all, turns_count, turns_least}
 
--- the turns so far: t of them, and the line had not ended before any
-pub record TurnsSoFar (form : LineForm) (shows : List Showing) (first now : InView) (t : ℕ) (line : LineView) (watched : List Watched) (old new : SinkView) : Type 0 where
-  pub read : List ℕ
-  pub stands : ViewStands form first now read t line watched []
-  pub shows_are : map showing_of watched ≡ shows
-  pub report : (available : List ℕ) → MayBe form.scrambled line.reader.ending read available → SinkWrites written.Whole old (text_until form shows available t) new
-  pub unended : (available : List ℕ) → MayBe form.scrambled line.reader.ending read available → (s : ℕ) → s < t → has_ended (line_state (size_of form) (mfas_of available) s) ≡ false
+-- all that was taken is what a line may have
+itself : (scrambled : Bool) (ending : Ending) (read : List ℕ) → MayBe scrambled ending read (through_mask scrambled (read ++ []))
+itself scrambled ending read = record { rest = []; over = λ _. refl; parts = refl }
 
--- whether the line has ended after these turns
-abbrev pub HasLast : (form : LineForm) → (t : ℕ) → (line : LineView) → (read : List ℕ) → Bool → Type 0
-HasLast form t line read ended = (available : List ℕ) → MayBe form.scrambled line.reader.ending read available → has_ended (line_state (size_of form) (mfas_of available) t) ≡ ended
+-- a line's end was seen, by its answer
+pub end_is : (b : Bool) (e : Ending) → (IsTrue b → e ≡ Seen) × (e ≡ Seen → IsTrue b) → b ≡ is_seen e
+end_is true Seen h = refl
+end_is true Open h = absurd (let e : Open ≡ Seen = h.0 refl in cc)
+end_is true Died h = absurd (let e : Died ≡ Seen = h.0 refl in cc)
+end_is false Seen h = absurd (let e : false ≡ true = h.1 refl in cc)
+end_is false Open h = refl
+end_is false Died h = refl
 
--- a line hunts before its first turn
-first_open : (size : ℕ) (ms : List ℕ) → has_ended (line_state size ms 0) ≡ false
-unfolding line_state
-first_open size ms = refl
+-- ---- before the first turn, behind the line of the line
 
--- before the first turn, behind the line of the line
-pub turns_none : (form : LineForm) (first : InView) (line : LineView) (watched : List Watched) (old new : SinkView) → ((first : InView) → ViewStands form first first [] 0 line watched [])
-    → SinkWrites written.Whole old (head_line form.kind form.scrambled) new
-    → (h : TurnsSoFar form (map showing_of watched) first first 0 line watched old new) × HasLast form 0 line h.read false
-turns_none form first line watched old new stands wrote = (
-  record {
-    read = [];
-    stands = stands first;
-    shows_are = refl;
-    report = λ available may. subst (λ xs. SinkWrites written.Whole old xs new) (sym (append-nil (head_line form.kind form.scrambled))) wrote;
-    unended = λ available may s before. absurd (omega (arith, before));
-  },
-  λ available may. first_open (size_of form) (mfas_of available),
-)
+pub view_starts : (viewing : Viewing) (first : InView) (old new : SinkView) → IsNew viewing → viewing.line.pieces ≡ 0
+    → SinkWrites written.Whole old (head_line viewing.kind viewing.scrambled) new → Walked (form_in viewing) first first [] 0 viewing.line (ViewHolds viewing viewing old new)
+view_starts viewing first old new is_new between wrote = record {
+  stands = (is_new first).line_is;
+  between = between;
+  holds = λ available may. record {
+    step = (is_new first).step;
+    sinks = (is_new first).sinks available may;
+    msi = (is_new first).msi_is available may;
+    shows = refl;
+    wrote = subst (λ xs. SinkWrites written.Whole old xs new) (sym (append-nil (head_line viewing.kind viewing.scrambled))) wrote;
+  };
+}
 
--- a number below t + 1 is below t, or is t
-last_or_before : (s t : ℕ) → s < t + 1 → (s < t) ⊎ (s ≡ t)
-last_or_before s t within = by_test (ltb s t) refl
-  where
-    by_test : (b : Bool) → ltb s t ≡ b → (s < t) ⊎ (s ≡ t)
-    by_test true e = inl (ltb-true s t e)
-    by_test false e = let above = ltb-false s t e in inr (omega (arith, above, within))
-
--- the line had not ended before turn t + 1 either
-still_unended : (size : ℕ) (ms : List ℕ) (t : ℕ) → ((s : ℕ) → s < t → has_ended (line_state size ms s) ≡ false) → has_ended (line_state size ms t) ≡ false
-    → (s : ℕ) → s < t + 1 → has_ended (line_state size ms s) ≡ false
-still_unended size ms t before last s within = by_place (last_or_before s t within)
-  where
-    by_place : (s < t) ⊎ (s ≡ t) → has_ended (line_state size ms s) ≡ false
-    by_place (inl less) = before s less
-    by_place (inr same) = ap (λ k. has_ended (line_state size ms k)) same ∙ last
+-- ---- a turn
 
 -- the lines of one turn more
-text_more : (form : LineForm) (shows : List Showing) (available : List ℕ) (t : ℕ) (watched : List Watched) (lines : List ℕ) → map showing_of watched ≡ shows
-    → lines ≡ turn_text form (map showing_of watched) available t → text_until form shows available t ++ lines ≡ text_until form shows available (t + 1)
-text_more form shows available t watched some same lines =
+text_more : (form : LineForm) (shows : List Showing) (available : List ℕ) (t : ℕ)
+    → text_until form shows available t ++ turn_text form shows available t ≡ text_until form shows available (t + 1)
+text_more form shows available t =
     let head = head_line form.kind form.scrambled in
     let turns = flat_map (turn_text form shows available) (range_with_len 0 t) in
-    ap (λ xs. (head ++ turns) ++ xs) (lines ∙ ap (λ os. turn_text form os available t) same)
-    ∙ append_assoc head turns (turn_text form shows available t)
+    append_assoc head turns (turn_text form shows available t)
     ∙ ap (λ xs. head ++ xs) (sym (turns-more (turn_text form shows available) t))
 
--- the lines of a turn are what the definition says
-turn_is : (form : LineForm) (shows : List Showing) (first now : InView) (read : List ℕ) (t : ℕ) (line later : LineView) (olds news : List Watched) (old new : SinkView) (answer : After)
-    → (run : TurnRun form first now read t line later olds news old new answer)
-    → (available : List ℕ) → MayBe form.scrambled later.reader.ending (read ++ run.moves.further) available → lines_of t run.seen run.msi news ≡ turn_text form (map showing_of news) available t
-turn_is form shows first now read t line later olds news old new answer run available may =
-    lines_are form available t news run.seen run.msi (run.moves.seen_is available may) (run.moves.msi_is available may) (run.moves.told available may) (λ i one at. (run.moves.stands.step i one at).port)
+-- how the line and its sinks stand
+pub view_stands : (origin now : Viewing) (was is : SinkView) (first place : InView) (read : List ℕ) (t : ℕ) → Walked (form_in origin) first place read t now.line (ViewHolds origin now was is)
+    → ViewStands (form_in origin) first place read t now.line now.watched.items []
+view_stands origin now was is first place read t h = record {
+  line_is = h.stands;
+  step = (h.holds (through_mask origin.scrambled (read ++ [])) (itself origin.scrambled now.line.reader.ending read)).step;
+  sinks = λ available may. (h.holds available may).sinks;
+  msi_is = λ available may. (h.holds available may).msi;
+}
 
--- what one turn more says, of what the line may have
-turn_lines : (form : LineForm) (shows : List Showing) (first now : InView) (read : List ℕ) (t : ℕ) (line later : LineView) (olds news : List Watched) (old new : SinkView) (answer : After)
-    → map showing_of olds ≡ shows → (run : TurnRun form first now read t line later olds news old new answer)
-    → (available : List ℕ) → MayBe form.scrambled later.reader.ending (read ++ run.moves.further) available
-    → text_until form shows available t ++ lines_of t run.seen run.msi news ≡ text_until form shows available (t + 1)
-turn_lines form shows first now read t line later olds news old new answer same run available may =
-    text_more form shows available t news (lines_of t run.seen run.msi news) (run.moves.shows ∙ same) (turn_is form shows first now read t line later olds news old new answer run available may)
+pub turn_walked : (result : Written) (origin old new : Viewing) (was mid is : SinkView) (first place now : InView) (read : List ℕ) (t : ℕ) (seen : TurnSeen) (msi : List (ℕ × ℕ))
+    → Walked (form_in origin) first place read t old.line (ViewHolds origin old was mid)
+    → TurnMoves (form_in origin) first now read t old.line new.line old.watched.items new.watched.items seen msi → new.line.pieces ≡ 0
+    → SinkWrites result mid (lines_of t seen msi new.watched.items) is
+    → TurnWalked (after_by result seen.ended) (form_in origin) first now read t old.line new.line (ViewHolds origin new was is) (ViewLost origin new was is)
+turn_walked result origin old new was mid is first place now read t seen msi h m between wrote = record {
+  further = m.further;
+  stands = m.stands.line_is;
+  between = between;
+  earlier = m.earlier;
+  holds = λ available may. by_answer result seen.ended wrote available may (h.holds available (m.earlier available may));
+  ended = λ available may. by_end result seen.ended (ap (λ (s : TurnSeen). s.ended) (m.seen_is available may));
+}
+  where
+    form : LineForm
+    form = form_in origin
 
--- a turn more, after which the line has ended or not
-pub turns_more : (form : LineForm) (shows : List Showing) (first was now : InView) (t : ℕ) (line later : LineView) (olds news : List Watched) (old gained new : SinkView) (ended : Bool) (answer : After)
-    → (h : TurnsSoFar form shows first was t line olds old gained) → HasLast form t line h.read false
-    → (run : TurnRun form first now h.read t line later olds news gained new answer) → SinkWrites written.Whole gained (lines_of t run.seen run.msi news) new × (run.seen.ended ≡ ended)
-    → (k : TurnsSoFar form shows first now (t + 1) later news old new) × HasLast form (t + 1) later k.read ended
-turns_more form shows first was now t line later olds news old gained new ended answer h last run wrote = (
-  record {
-    read = h.read ++ run.moves.further;
-    stands = run.moves.stands;
-    shows_are = run.moves.shows ∙ h.shows_are;
-    report = λ available may.
-        subst (λ xs. SinkWrites written.Whole old xs new) (turn_lines form shows first now h.read t line later olds news gained new answer h.shows_are run available may)
-        (writes_twice written.Whole old gained new (text_until form shows available t) (lines_of t run.seen run.msi news) (h.report available (run.moves.earlier available may)) wrote.0);
-    unended = λ available may.
-        let earlier = run.moves.earlier available may in
-        still_unended (size_of form) (mfas_of available) t (h.unended available earlier) (last available earlier);
-  },
-  λ available may. sym (ap (λ (s : TurnSeen). s.ended) (run.moves.seen_is available may)) ∙ wrote.1,
-)
+    shows : List Showing
+    shows = shows_in origin
+
+    -- the lines are what the definition says
+    lines : (available : List ℕ) → MayBe origin.scrambled new.line.reader.ending (read ++ m.further) available → shows_in old ≡ shows → lines_of t seen msi new.watched.items ≡ turn_text form shows available t
+    lines available may same =
+        lines_are form available t new.watched.items seen msi (m.seen_is available may) (m.msi_is available may) (m.told available may) (λ i one at. (m.stands.step i one at).port)
+        ∙ ap (λ os. turn_text form os available t) (m.shows ∙ same)
+
+    goes : SinkWrites written.Whole mid (lines_of t seen msi new.watched.items) is → (available : List ℕ) → MayBe origin.scrambled new.line.reader.ending (read ++ m.further) available
+        → ViewHolds origin old was mid available t → ViewHolds origin new was is available (t + 1)
+    goes w available may k = record {
+      step = m.stands.step;
+      sinks = m.stands.sinks available may;
+      msi = m.stands.msi_is available may;
+      shows = m.shows ∙ k.shows;
+      wrote = subst (λ xs. SinkWrites written.Whole was xs is) (ap (λ xs. text_until form shows available t ++ xs) (lines available may k.shows) ∙ text_more form shows available t)
+          (writes_twice written.Whole was mid is (text_until form shows available t) (lines_of t seen msi new.watched.items) k.wrote w);
+    }
+
+    by_answer : (r : Written) (e : Bool) → SinkWrites r mid (lines_of t seen msi new.watched.items) is → (available : List ℕ)
+        → MayBe origin.scrambled new.line.reader.ending (read ++ m.further) available
+        → ViewHolds origin old was mid available t → TurnHolds (after_by r e) (ViewHolds origin new was is) (ViewLost origin new was is) available t
+    by_answer written.Whole true w available may k = goes w available may k
+    by_answer written.Whole false w available may k = goes w available may k
+    by_answer written.Lost e w available may k = record {
+      between = mid;
+      wrote = k.wrote;
+      lost = subst (λ xs. SinkWrites written.Lost mid xs is) (lines available may k.shows) w;
+    }
+
+    by_end : (r : Written) (e : Bool) {b : Bool} → e ≡ b → EndsWith (after_by r e) b
+    by_end written.Whole true same = sym same
+    by_end written.Whole false same = sym same
+    by_end written.Lost e same = tt
 
 -- ---- how it ends
-
--- whether more may come of a line
-abbrev pub may_come : Ending → Bool
-may_come Open = true
-may_come Seen = false
-may_come Died = false
-
-follows : (scrambled : Bool) (ending : Ending) (read rest : List ℕ) → MayFollow (may_come ending) rest → MayBe scrambled ending read (through_mask scrambled (read ++ rest))
-follows scrambled Open read rest follow = record { rest = rest; over = λ closed. absurd (closed refl); parts = refl }
-follows scrambled Seen read rest follow = record { rest = rest; over = λ closed. follow; parts = refl }
-follows scrambled Died read rest follow = record { rest = rest; over = λ closed. follow; parts = refl }
-
-closed_is : (ending : Ending) → may_come ending ≡ false → ending ≢ Open
-closed_is Open e = absurd (cc)
-closed_is Seen e = λ f. cc
-closed_is Died e = λ f. cc
-
-open_is : (ending : Ending) → ending ≢ Seen → ending ≢ Died → ending ≡ Open
-open_is Open a b = refl
-open_is Seen a b = absurd (a refl)
-open_is Died a b = absurd (b refl)
-
-alone : (scrambled : Bool) (ending : Ending) (read rest : List ℕ) → rest ≡ [] → MayBe scrambled ending read (through_mask scrambled (read ++ rest))
-alone scrambled ending read rest none = record { rest = rest; over = λ _. none; parts = refl }
 
 -- the first lines of the text
 text_first : (form : LineForm) (shows : List Showing) (ending : Ending) (available : List ℕ) (n : ℕ) → n ≤ 16384
@@ -215,10 +194,6 @@ part_of_end form shows ending available t same =
     let here : (t == turn_count (size_of form) available) ≡ true = grind (arith, nat_tests) in
     sym (ap (λ b. if b then end_line t (rest_of ending available) else turn_text form shows available t) here)
 
-some_frames : (kind : LineKind) → 1 ≤ slots_of kind
-some_frames Otu2 = omega arith
-some_frames Otu3 = omega arith
-
 -- all that was taken may stand in the line
 within_given : (scrambled : Bool) (read rest : List ℕ) → length read ≤ length (through_mask scrambled (read ++ rest))
 within_given scrambled read rest = let long = length_parts scrambled read [] rest in omega (arith, long)
@@ -252,254 +227,117 @@ head_lost form shows first old new wrote = record {
 }
 
 -- with a write of a turn that failed
-pub turns_lost : (form : LineForm) (shows : List Showing) (first was now : InView) (t : ℕ) (line later : LineView) (olds news : List Watched) (old gained new : SinkView)
-    → (h : TurnsSoFar form shows first was t line olds old gained) → HasLast form t line h.read false → t < 16384 → later.pieces ≡ 0
-    → TurnRun form first now h.read t line later olds news gained new next.ReportFailed → ViewEnded form shows first now old new ReportFault
-turns_lost form shows first was now t line later olds news old gained new h last few none run = record {
-  read = h.read ++ run.moves.further;
-  gave = run.moves.stands.line_is.gave;
-  more = may_come later.reader.ending;
-  over = λ none live. run.moves.stands.line_is.over (closed_is later.reader.ending none) live;
-  ending = later.reader.ending;
-  ended_as = λ no. absurd (no refl);
-  report = λ rest follow.
-      let available = through_mask form.scrambled ((h.read ++ run.moves.further) ++ rest) in
-      let may = follows form.scrambled later.reader.ending (h.read ++ run.moves.further) rest follow in
-      let earlier = run.moves.earlier available may in
-      let text = text_first form shows later.reader.ending available (t + 1) (omega (arith, few)) (still_unended (size_of form) (mfas_of available) t (h.unended available earlier) (last available earlier)) in
-      subst (λ xs. SinkWrites written.Lost old xs new) text.1
-      (part_of_more old new (text_until form shows available (t + 1)) text.0
-      (subst (λ xs. SinkWrites written.Lost old xs new) (turn_lines form shows first now h.read t line later olds news gained new next.ReportFailed h.shows_are run available may)
-      (writes_twice written.Lost old gained new (text_until form shows available t) (lines_of t run.seen run.msi news) (h.report available earlier) run.wrote)));
-  ends = tt;
-  took = λ no. absurd (no refl);
-  failed = λ e rest follow.
-      let read = h.read ++ run.moves.further in
-      let available = through_mask form.scrambled (read ++ rest) in
-      let may = follows form.scrambled later.reader.ending read rest follow in
-      let earlier = run.moves.earlier available may in
-      let going = still_unended (size_of form) (mfas_of available) t (h.unended available earlier) (last available earlier) in
-      let count : t + 1 ≤ turn_count (size_of form) available = turns_least (size_of form) (mfas_of available) (t + 1) (omega (arith, few)) going in
-      record {
-        part = suc t;
-        few = omega (arith, count);
-        took = taken_by (size_of form) available read t (t + 1) (suc t) later.reader (within_given form.scrambled read rest)
-            (took_turns (size_of form) available read (t + 1) later (some_frames form.kind) (run.moves.stands.line_is.is_line available may) none) (omega (arith, count));
-        between = gained;
-        wrote = h.report available earlier;
-        lost = subst (λ xs. SinkWrites written.Lost gained xs new)
-            (turn_is form shows first now h.read t line later olds news gained new next.ReportFailed run available may ∙ ap (λ os. turn_text form os available t) (run.moves.shows ∙ h.shows_are)
-            ∙ part_of_turn form shows later.reader.ending available t (omega (arith, count)))
-            run.wrote;
-      };
-}
+pub view_stops : (origin last : Viewing) (was is : SinkView) (first now : InView) → (h : WalkLost (form_in origin) first now last.line (ViewLost origin last was is))
+    → ViewEnded (form_in origin) (shows_in origin) first now was is ReportFault
+view_stops origin last was is first now h =
+    let form = form_in origin in
+    let shows = shows_in origin in
+    let left = line_stops form first now h.read (h.t + 1) last.line h.stands in
+    let few : h.t + 1 ≤ 16384 = (let less = h.few in omega (arith, less)) in
+    record {
+      read = left.read;
+      gave = left.gave;
+      more = left.more;
+      over = left.over;
+      ending = last.line.reader.ending;
+      ended_as = left.ended_as;
+      report = λ rest follow.
+          let available = through_mask form.scrambled (left.read ++ rest) in
+          let may = left.may rest follow in
+          let k = h.lost available may in
+          let text = text_first form shows last.line.reader.ending available (h.t + 1) few (h.unended available may) in
+          subst (λ xs. SinkWrites written.Lost was xs is) text.1
+          (part_of_more was is (text_until form shows available (h.t + 1)) text.0
+          (subst (λ xs. SinkWrites written.Lost was xs is) (text_more form shows available h.t)
+          (writes_twice written.Lost was k.between is (text_until form shows available h.t) (turn_text form shows available h.t) k.wrote k.lost)));
+      ends = tt;
+      took = λ other. absurd (other refl);
+      failed = λ e rest follow.
+          let available = through_mask form.scrambled (left.read ++ rest) in
+          let may = left.may rest follow in
+          let k = h.lost available may in
+          let count : h.t + 1 ≤ turn_count (size_of form) available = turns_least (size_of form) (mfas_of available) (h.t + 1) few (h.unended available may) in
+          record {
+            part = suc h.t;
+            few = omega (arith, count);
+            took = ap length (left.same refl) ∙ taken_by (size_of form) available h.read h.t (h.t + 1) (suc h.t) last.line.reader
+                (subst (λ xs. length xs ≤ length available) (left.same refl) (within_given form.scrambled left.read rest))
+                (took_turns (size_of form) available h.read (h.t + 1) last.line (some_frames form.kind) (h.stands.is_line available may) h.between) (omega (arith, count));
+            between = k.between;
+            wrote = k.wrote;
+            lost = subst (λ xs. SinkWrites written.Lost k.between xs is) (part_of_turn form shows last.line.reader.ending available h.t (omega (arith, count))) k.lost;
+          };
+    }
 
 -- the last line is written, or a part of it
-last_line : (result : Written) (form : LineForm) (shows : List Showing) (first was : InView) (t : ℕ) (line : LineView) (watched : List Watched) (old gained new : SinkView)
-    → (h : TurnsSoFar form shows first was t line watched old gained) → t ≤ 16384
-    → ((available : List ℕ) → MayBe form.scrambled line.reader.ending h.read available → (has_ended (line_state (size_of form) (mfas_of available) t) ≡ true) ⊎ (t ≡ 16384))
-    → SinkWrites result gained (end_line t line.reader.rest) new
-    → (available : List ℕ) → MayBe form.scrambled line.reader.ending h.read available → SinkWrites result old (view_text form shows line.reader.ending available) new
-last_line result form shows first was t line watched old gained new h few last wrote available may =
-    subst (λ xs. SinkWrites result old xs new) (text_all form shows line.reader.ending available t few (h.unended available may) (last available may))
-    (writes_twice result old gained new (text_until form shows available t) (end_line t (rest_of line.reader.ending available)) (h.report available may)
-    (subst (λ r. SinkWrites result gained (end_line t r) new) (h.stands.line_is.is_line available may).read.rest wrote))
+last_line : (result : Written) (origin last : Viewing) (was mid is : SinkView) (first place : InView) (t : ℕ) → (h : WalkDone (form_in origin) first place t last.line (ViewHolds origin last was mid))
+    → SinkWrites result mid (end_line t last.line.reader.rest) is → (available : List ℕ) → MayBe origin.scrambled last.line.reader.ending h.read available
+    → SinkWrites result was (view_text (form_in origin) (shows_in origin) last.line.reader.ending available) is
+last_line result origin last was mid is first place t h wrote available may =
+    subst (λ xs. SinkWrites result was xs is) (text_all (form_in origin) (shows_in origin) last.line.reader.ending available t h.few (h.unended available may) (h.last available may))
+    (writes_twice result was mid is (text_until (form_in origin) (shows_in origin) available t) (end_line t (rest_of last.line.reader.ending available)) (h.walked.holds available may).wrote
+    (subst (λ r. SinkWrites result mid (end_line t r) is) (h.walked.stands.is_line available may).read.rest wrote))
 
--- so many bytes were taken
-open_count : (n k : ℕ) → n ≡ 16320 * k → n % 16320 ≡ 0
-open_count n k e = omega (arith, e)
+-- with a write of the last line that failed
+pub end_lost : (origin last : Viewing) (was mid is : SinkView) (first now : InView) (t : ℕ) → WalkDone (form_in origin) first now t last.line (ViewHolds origin last was mid)
+    → SinkWrites written.Lost mid (end_line t last.line.reader.rest) is → ViewEnded (form_in origin) (shows_in origin) first now was is ReportFault
+end_lost origin last was mid is first now t h wrote =
+    let form = form_in origin in
+    let shows = shows_in origin in
+    let left = line_stops form first now h.read t last.line h.walked.stands in
+    record {
+      read = left.read;
+      gave = left.gave;
+      more = left.more;
+      over = left.over;
+      ending = last.line.reader.ending;
+      ended_as = left.ended_as;
+      report = λ rest follow. last_line written.Lost origin last was mid is first now t h wrote (through_mask form.scrambled (left.read ++ rest)) (left.may rest follow);
+      ends = tt;
+      took = λ other. absurd (other refl);
+      failed = λ e rest follow.
+          let available = through_mask form.scrambled (left.read ++ rest) in
+          let may = left.may rest follow in
+          let at = h.walked.stands.is_line available may in
+          let count : turn_count (size_of form) available ≡ t = turns_count (size_of form) (mfas_of available) t h.few (h.unended available may) (h.last available may) in
+          record {
+            part = suc t;
+            few = omega (arith, count);
+            took = ap length (left.same refl) ∙ taken_by (size_of form) available h.read t t (suc t) last.line.reader
+                (subst (λ xs. length xs ≤ length available) (left.same refl) (within_given form.scrambled left.read rest))
+                (took_turns (size_of form) available h.read t last.line (some_frames form.kind) at h.walked.between) (omega (arith, count));
+            between = mid;
+            wrote = (h.walked.holds available may).wrote;
+            lost = subst (λ xs. SinkWrites written.Lost mid xs is) (ap (end_line t) at.read.rest ∙ part_of_end form shows last.line.reader.ending available t (sym count)) wrote;
+          };
+    }
 
-one_more : (n m k : ℕ) → n ≡ 16320 * k → m ≡ n + 1 → 0 < m % 16320
-one_more n m k a b = omega (arith, a, b)
+whole_is : (ended : Ended) → ended ≢ ReportFault → written_of ended ≡ written.Whole
+whole_is Done other = refl
+whole_is Unfinished other = refl
+whole_is Cut other = refl
+whole_is ReportFault other = absurd (other refl)
+whole_is Memory other = refl
 
-taken_open : (form : LineForm) (shows : List Showing) (first was : InView) (t : ℕ) (line : LineView) (watched : List Watched) (old gained : SinkView)
-    → (h : TurnsSoFar form shows first was t line watched old gained) → line.reader.ending ≡ Open → (k : ℕ) × (length h.read ≡ 16320 * k)
-taken_open form shows first was t line watched old gained h open_now =
-    let read = (h.stands.line_is.is_line (through_mask form.scrambled (h.read ++ [])) (alone form.scrambled line.reader.ending h.read [] refl)).read in
-    (_, (read.still open_now).0)
-
-taken_seen : (form : LineForm) (shows : List Showing) (first was : InView) (t : ℕ) (line : LineView) (watched : List Watched) (old gained : SinkView)
-    → (h : TurnsSoFar form shows first was t line watched old gained) → line.reader.ending ≡ Seen → line.reader.rest ≡ length h.read % 16320
-taken_seen form shows first was t line watched old gained h seen =
-    let available = through_mask form.scrambled (h.read ++ []) in
-    let read = (h.stands.line_is.is_line available (alone form.scrambled line.reader.ending h.read [] refl)).read in
-    let closed : line.reader.ending ≢ Open = λ e. let f : Seen ≡ Open = sym seen ∙ e in absurd (cc) in
-    read.rest ∙ ap (λ e. rest_of e available) seen ∙ ap (λ n. n % 16320) (sym (read.over closed).1)
-
--- a place that is not dead was not dead before
-was_alive : (was now : InView) (further : List ℕ) → Gave was further now → now.state ≢ Dead → was.state ≢ Dead
-was_alive was now further gave alive dead =
-    let idle : was.state ≢ Live = λ live. let e : Dead ≡ Live = sym dead ∙ live in absurd (cc) in
-    alive (ap (λ (v : InView). v.state) (gave.idle idle).0 ∙ dead)
-
-open_ends : (ending : Ending) (now : InView) → ending ≡ Open → EndedAs ending now
-open_ends ending now e = record { died = λ f. absurd (let g : Open ≡ Died = sym e ∙ f in cc); seen = λ f. absurd (let g : Open ≡ Seen = sym e ∙ f in cc) }
-
--- what the turns wanted was taken
-took_of : (form : LineForm) (shows : List Showing) (first was : InView) (t : ℕ) (line : LineView) (watched : List Watched) (old gained : SinkView)
-    → (h : TurnsSoFar form shows first was t line watched old gained) → t ≤ 16384
-    → ((available : List ℕ) → MayBe form.scrambled line.reader.ending h.read available → (has_ended (line_state (size_of form) (mfas_of available) t) ≡ true) ⊎ (t ≡ 16384))
-    → line.pieces ≡ 0 → (available : List ℕ) → MayBe form.scrambled line.reader.ending h.read available → TookFrames (frames_wanted (size_of form) available) available h.read line.reader
-took_of form shows first was t line watched old gained h few last none available may =
-    took_wanted (size_of form) available h.read t line (some_frames form.kind) (h.stands.line_is.is_line available may) none (turns_count (size_of form) (mfas_of available) t few (h.unended available may) (last available may))
-
-took_alone : (form : LineForm) (shows : List Showing) (first was : InView) (t : ℕ) (line : LineView) (watched : List Watched) (old gained : SinkView)
-    → (h : TurnsSoFar form shows first was t line watched old gained) → t ≤ 16384
-    → ((available : List ℕ) → MayBe form.scrambled line.reader.ending h.read available → (has_ended (line_state (size_of form) (mfas_of available) t) ≡ true) ⊎ (t ≡ 16384))
-    → line.pieces ≡ 0 → (rest : List ℕ) → rest ≡ [] → length h.read ≡ bytes_read (size_of form) (through_mask form.scrambled (h.read ++ rest))
-took_alone form shows first was t line watched old gained h few last none rest nil = by_ending line.reader.ending refl
-  where
-    available : List ℕ
-    available = through_mask form.scrambled (h.read ++ rest)
-
-    took : TookFrames (frames_wanted (size_of form) available) available h.read line.reader
-    took = took_of form shows first was t line watched old gained h few last none available (alone form.scrambled line.reader.ending h.read rest nil)
-
-    closed : line.reader.ending ≢ Open → length h.read ≡ bytes_read (size_of form) available
-    closed ended = let o = took.over ended in closed_least (length h.read) (length available) (frames_wanted (size_of form) available) o.0 o.1
-
-    by_ending : (e : Ending) → line.reader.ending ≡ e → length h.read ≡ bytes_read (size_of form) available
-    by_ending Open e =
-        let long = length_parts form.scrambled h.read [] rest in
-        let none_more : length rest ≡ 0 = ap length nil in
-        open_least (length h.read) (length available) (frames_wanted (size_of form) available) (took.still e) (omega (arith, long, none_more))
-    by_ending Seen e = closed (λ f. cc)
-    by_ending Died e = closed (λ f. cc)
-
--- how the view ends with an answer
-pub turns_end : (ended : Ended) (form : LineForm) (shows : List Showing) (first was now : InView) (t : ℕ) (line : LineView) (watched : List Watched) (old gained new : SinkView)
-    → (h : TurnsSoFar form shows first was t line watched old gained) → t ≤ 16384
-    → ((available : List ℕ) → MayBe form.scrambled line.reader.ending h.read available → (has_ended (line_state (size_of form) (mfas_of available) t) ≡ true) ⊎ (t ≡ 16384))
-    → line.pieces ≡ 0 → FinishRun t line was now gained new ended → ViewEnded form shows first now old new ended
-turns_end Done form shows first was now t line watched old gained new h few last none f = by_end f.answer.ends.2
-  where
-    gave : Gave first h.read now
-    gave = subst (λ xs. Gave first xs now) (ap (λ xs. h.read ++ xs) f.answer.ends.1 ∙ append-nil h.read) (gave_twice first was now h.read f.answer.further h.stands.line_is.gave f.answer.gave)
-
-    text : (rest : List ℕ) → rest ≡ [] → SinkWrites written.Whole old (view_text form shows line.reader.ending (through_mask form.scrambled (h.read ++ rest))) new
-    text rest nil = last_line written.Whole form shows first was t line watched old gained new h few last f.wrote (through_mask form.scrambled (h.read ++ rest)) (alone form.scrambled line.reader.ending h.read rest nil)
-
-    by_end : ((line.reader.ending ≡ Seen) × (line.reader.rest ≡ 0) × (now ≡ was)) ⊎ ((line.reader.ending ≢ Seen) × HasEnded now.left now.ended) → ViewEnded form shows first now old new Done
-    by_end (inl s) =
-        let closed : line.reader.ending ≢ Open = λ e. let f : Seen ≡ Open = sym s.0 ∙ e in absurd (cc) in
-        record {
-          read = h.read;
-          gave = gave;
-          more = false;
-          over = λ _ live. subst (λ (v : InView). HasEnded v.left v.ended) (sym s.2) (h.stands.line_is.over closed (ap (λ (v : InView). v.state) (sym s.2) ∙ live));
-          ending = line.reader.ending;
-          ended_as = λ _. subst (EndedAs line.reader.ending) (sym s.2) h.stands.line_is.ending;
-          report = text;
-          ends = (f.answer.ends.0, refl, sym (taken_seen form shows first was t line watched old gained h s.0) ∙ s.1);
-          took = λ _ rest nil. took_alone form shows first was t line watched old gained h few last none rest nil;
-          failed = λ e. absurd (cc);
-        }
-    by_end (inr u) =
-        let alive = was_alive was now f.answer.further f.answer.gave f.answer.ends.0 in
-        let open_now = open_is line.reader.ending u.0 (λ died. alive (h.stands.line_is.ending.died died)) in
-        let count = taken_open form shows first was t line watched old gained h open_now in
-        record {
-          read = h.read;
-          gave = gave;
-          more = false;
-          over = λ _ live. u.1;
-          ending = line.reader.ending;
-          ended_as = λ _. open_ends line.reader.ending now open_now;
-          report = text;
-          ends = (f.answer.ends.0, refl, open_count (length h.read) count.0 count.1);
-          took = λ _ rest nil. took_alone form shows first was t line watched old gained h few last none rest nil;
-          failed = λ e. absurd (cc);
-        }
-turns_end Unfinished form shows first was now t line watched old gained new h few last none f = by_end f.answer.ends.1
-  where
-    by_end : ((line.reader.ending ≡ Seen) × (0 < line.reader.rest) × (f.answer.further ≡ []) × (now ≡ was)) ⊎ ((line.reader.ending ≢ Seen) × (length f.answer.further ≡ 1))
-        → ViewEnded form shows first now old new Unfinished
-    by_end (inl s) =
-        let closed : line.reader.ending ≢ Open = λ e. let f : Seen ≡ Open = sym s.0 ∙ e in absurd (cc) in
-        record {
-          read = h.read;
-          gave = subst (λ xs. Gave first xs now) (ap (λ xs. h.read ++ xs) s.2 ∙ append-nil h.read) (gave_twice first was now h.read f.answer.further h.stands.line_is.gave f.answer.gave);
-          more = false;
-          over = λ _ live. subst (λ (v : InView). HasEnded v.left v.ended) (sym s.3) (h.stands.line_is.over closed (ap (λ (v : InView). v.state) (sym s.3) ∙ live));
-          ending = line.reader.ending;
-          ended_as = λ _. subst (EndedAs line.reader.ending) (sym s.3) h.stands.line_is.ending;
-          report = λ rest nil. last_line written.Whole form shows first was t line watched old gained new h few last f.wrote (through_mask form.scrambled (h.read ++ rest)) (alone form.scrambled line.reader.ending h.read rest nil);
-          ends = (f.answer.ends.0, subst (λ n. 0 < n) (taken_seen form shows first was t line watched old gained h s.0) s.1, s.0);
-          took = λ _ rest nil. took_alone form shows first was t line watched old gained h few last none rest nil;
-          failed = λ e. absurd (cc);
-        }
-    by_end (inr u) =
-        let alive = was_alive was now f.answer.further f.answer.gave f.answer.ends.0 in
-        let open_now = open_is line.reader.ending u.0 (λ died. alive (h.stands.line_is.ending.died died)) in
-        let count = taken_open form shows first was t line watched old gained h open_now in
-        let size : length (h.read ++ f.answer.further) ≡ length h.read + 1 = length-append h.read f.answer.further ∙ ap (λ n. length h.read + n) u.1 in
-        record {
-          read = h.read ++ f.answer.further;
-          gave = gave_twice first was now h.read f.answer.further h.stands.line_is.gave f.answer.gave;
-          more = true;
-          over = λ e. absurd (cc);
-          ending = line.reader.ending;
-          ended_as = λ _. open_ends line.reader.ending now open_now;
-          report = λ rest follow.
-              last_line written.Whole form shows first was t line watched old gained new h few last f.wrote (through_mask form.scrambled ((h.read ++ f.answer.further) ++ rest))
-              (record {
-                rest = f.answer.further ++ rest;
-                over = λ closed. absurd (closed open_now);
-                parts = ap (through_mask form.scrambled) (append_assoc h.read f.answer.further rest);
-              });
-          ends = (f.answer.ends.0, one_more (length h.read) (length (h.read ++ f.answer.further)) count.0 count.1 size, open_now);
-          took = λ _ rest follow.
-              let available = through_mask form.scrambled ((h.read ++ f.answer.further) ++ rest) in
-              let took = took_of form shows first was t line watched old gained h few last none available
-              (record {
-                rest = f.answer.further ++ rest;
-                over = λ closed. absurd (closed open_now);
-                parts = ap (through_mask form.scrambled) (append_assoc h.read f.answer.further rest);
-              }) in
-              let long = length_parts form.scrambled (h.read ++ f.answer.further) [] rest in
-              more_least (length h.read) (length (h.read ++ f.answer.further)) (length available) (frames_wanted (size_of form) available) (took.still open_now) size (omega (arith, long));
-          failed = λ e. absurd (cc);
-        }
-turns_end Cut form shows first was now t line watched old gained new h few last none f = record {
-  read = h.read;
-  gave = subst (λ xs. Gave first xs now) (ap (λ xs. h.read ++ xs) f.answer.ends.1 ∙ append-nil h.read) (gave_twice first was now h.read f.answer.further h.stands.line_is.gave f.answer.gave);
-  more = false;
-  over = λ _ live. let e : Dead ≡ Live = sym f.answer.ends.0 ∙ live in absurd (cc);
-  ending = line.reader.ending;
-  ended_as = λ _. record { died = λ _. f.answer.ends.0; seen = λ seen. by_place f.answer.ends.2 seen };
-  report = λ rest nil. last_line written.Whole form shows first was t line watched old gained new h few last f.wrote (through_mask form.scrambled (h.read ++ rest)) (alone form.scrambled line.reader.ending h.read rest nil);
-  ends = f.answer.ends.0;
-  took = λ _ rest nil. took_alone form shows first was t line watched old gained h few last none rest nil;
-  failed = λ e. absurd (cc);
-}
-  where
-    by_place : (now ≡ was) ⊎ (line.reader.ending ≢ Seen) → line.reader.ending ≡ Seen → now.state ≢ Dead
-    by_place (inl same) seen = subst (λ (v : InView). v.state ≢ Dead) (sym same) (h.stands.line_is.ending.seen seen)
-    by_place (inr other) seen = absurd (other seen)
-turns_end ReportFault form shows first was now t line watched old gained new h few last none f = record {
-  read = h.read;
-  gave = subst (λ xs. Gave first xs now) (ap (λ xs. h.read ++ xs) f.answer.ends.0 ∙ append-nil h.read) (gave_twice first was now h.read f.answer.further h.stands.line_is.gave f.answer.gave);
-  more = may_come line.reader.ending;
-  over = λ none live. subst (λ (v : InView). HasEnded v.left v.ended) (sym f.answer.ends.1) (h.stands.line_is.over (closed_is line.reader.ending none) (ap (λ (v : InView). v.state) (sym f.answer.ends.1) ∙ live));
-  ending = line.reader.ending;
-  ended_as = λ no. absurd (no refl);
-  report = λ rest follow.
-      last_line written.Lost form shows first was t line watched old gained new h few last f.wrote (through_mask form.scrambled (h.read ++ rest)) (follows form.scrambled line.reader.ending h.read rest follow);
-  ends = tt;
-  took = λ no. absurd (no refl);
-  failed = λ e rest follow.
-      let available = through_mask form.scrambled (h.read ++ rest) in
-      let may = follows form.scrambled line.reader.ending h.read rest follow in
-      let is = h.stands.line_is.is_line available may in
-      let count : turn_count (size_of form) available ≡ t = turns_count (size_of form) (mfas_of available) t few (h.unended available may) (last available may) in
-      record {
-        part = suc t;
-        few = omega (arith, count);
-        took = taken_by (size_of form) available h.read t t (suc t) line.reader (within_given form.scrambled h.read rest)
-            (took_turns (size_of form) available h.read t line (some_frames form.kind) is none) (omega (arith, count));
-        between = gained;
-        wrote = h.report available may;
-        lost = subst (λ xs. SinkWrites written.Lost gained xs new) (ap (end_line t) is.read.rest ∙ part_of_end form shows line.reader.ending available t (sym count)) f.wrote;
-      };
-}
-turns_end Memory form shows first was now t line watched old gained new h few last none f = absurd f.answer.ends
+-- after the last line
+pub view_ends : (ended : Ended) (origin last : Viewing) (was mid is : SinkView) (first place now : InView) (t : ℕ)
+    → WalkDone (form_in origin) first place t last.line (ViewHolds origin last was mid) → SinkWrites written.Whole mid (end_line t last.line.reader.rest) is
+    → WalkEnds (is_seen last.line.reader.ending) last.line.reader.rest place now ended → ended ≢ ReportFault → ViewEnded (form_in origin) (shows_in origin) first now was is ended
+view_ends ended origin last was mid is first place now t h wrote w other =
+    let form = form_in origin in
+    let left = line_ends form first place now t last.line (ViewHolds origin last was mid) ended h w in
+    record {
+      read = left.read;
+      gave = left.gave;
+      more = left.more;
+      over = left.over;
+      ending = last.line.reader.ending;
+      ended_as = left.ended_as;
+      report = λ rest follow.
+          let available = through_mask form.scrambled (left.read ++ rest) in
+          subst (λ r. SinkWrites r was (view_text form (shows_in origin) last.line.reader.ending available) is) (sym (whole_is ended other))
+          (last_line written.Whole origin last was mid is first place t h wrote available (left.may rest follow));
+      ends = left.ends;
+      took = left.took;
+      failed = λ e. absurd (other e);
+    }

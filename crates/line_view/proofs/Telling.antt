@@ -1,18 +1,19 @@
 -- What is told of a tributary.
-use Rattle.std.proofs.Common.{◌≡◌, ◌+◌, ◌-◌, ◌∙◌, ℕ, zero, suc, List, [], ◌∷◌, ◌++◌, Option, length, map, take, drop, refl, ap, sym, length-append}
+use Rattle.std.proofs.Common.{◌≡◌, ◌+◌, ◌-◌, ◌∙◌, ℕ, zero, suc, List, [], ◌∷◌, ◌++◌, Option, length, map, drop, refl, ap, sym, length-append}
 use Rattle.std.specs.Prelude.{if◌then◌else◌}
 use Rattle.std.specs.List.{concat, flat_map}
 use Rattle.std.proofs.Math.Seq.{take-append_seam, drop-append_seam}
 use Rattle.line_side.specs.LineFile.{mfas_of}
-use Rattle.line_commands.specs.PullReport.{pull_report, tributary, turns_of as turns_pulled}
+use Rattle.line_commands.specs.PullReport.{pull_report, tributary}
+use Rattle.tributary_line.specs.TurnsDone.{turns_of}
 use Rattle.tributary_model.specs.Carries.{past_of}
 use Rattle.tributary_model.specs.Laws.{IsTributary}
 use Rattle.tributary_model.specs.Places.{Tributary, View}
 use Rattle.device_model.proofs.LineViews.{same_view}
 use Rattle.device_model.specs.Agreements.{AgreeOnTributary}
-use Rattle.device_model.specs.LineViews.{view_at, views_until, emitted_at}
-use Rattle.line_view.specs.Laws.{bytes_told, each_told, pieces_of, TellsTheSame, TellsAllBytes, TellsPull, TellsWhatPullWrites}
-use Rattle.line_view.specs.ViewText.{Showing, is_shown, showing_text, told_of, told_at, tributary_line, turns_of, views_from}
+use Rattle.device_model.specs.LineViews.{view_at, emitted_at}
+use Rattle.line_view.specs.Laws.{bytes_told, each_told, pieces_of, TellsTheSame, TellsAllBytes, TellsWhatPullWrites}
+use Rattle.line_view.specs.ViewText.{is_shown, told_of, told_at, tributary_line, views_from}
 use Rattle.line_view.proofs.Begun.{views_all}
 
 -- turns that show the same, from one turn on
@@ -68,7 +69,7 @@ each_length own available (t ∷ turns) =
 -- the turns of `pull` are those of a view
 pulled : (port : ℕ) (slots available : List ℕ)
     → pull_report (tributary port slots) available ≡ flat_map (emitted_at (tributary port slots) available) (turns_of 8 (mfas_of available))
-unfolding pull_report turns_pulled turns_of
+unfolding pull_report
 pulled port slots available = refl
 
 tells_turns : (port : ℕ) (slots available : List ℕ)

@@ -13,7 +13,7 @@ use Rattle.port_base.specs.declared.drain.Written.{Written}
 use Rattle.port_base.specs.declared.drain.Written.TheVariants as written
 use Rattle.line_side.specs.LineForm.{LineForm}
 use Rattle.line_view.specs.Steps.ViewRuns.{lines_of, watched_line}
-use Rattle.line_view.specs.ViewText.{is_shown, has_begun, msi_at_turn, msi_line, seen_at, showing_text, told_at, turn_line, tributary_line, turn_text}
+use Rattle.line_view.specs.ViewText.{is_shown, msi_at_turn, msi_line, seen_at, showing_text, told_at, turn_line, tributary_line, turn_text}
 use Rattle.line_view.specs.Steps.Watching.{begun, own_of, showing_of}
 use Rattle.line_view.specs.declared.told.TurnSeen.{TurnSeen}
 use Rattle.line_view.specs.declared.watched.Watched.{Watched}

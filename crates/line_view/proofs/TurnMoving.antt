@@ -1,5 +1,5 @@
 -- A turn of the sinks on a line, from its pieces.
-use Rattle.std.proofs.Common.{◌≡◌, ◌≤◌, ◌<◌, ◌+◌, ◌∙◌, ℕ, Bool, true, false, List, [], ◌∷◌, ◌++◌, Some, slice_get, refl, sym, ap, subst, arith, add-one}
+use Rattle.std.proofs.Common.{◌≡◌, ◌+◌, ◌∙◌, ℕ, Bool, true, false, List, [], ◌∷◌, ◌++◌, Some, slice_get, refl, sym, ap, subst, arith}
 use Rattle.std.specs.Prelude.{IsTrue, if◌then◌else◌, nat_le}
 use Rattle.std.specs.List.{flat_map}
 use Rattle.otn_base.specs.LineSlots.{LineSlots, slots_of}
@@ -22,7 +22,7 @@ use Rattle.line_view.specs.Steps.Watching.{EachWatched, EndedTurn, begun, own_of
 use Rattle.line_view.specs.declared.told.TurnCounts.{TurnCounts}
 use Rattle.line_view.specs.declared.told.TurnSeen.{TurnSeen}
 use Rattle.line_view.specs.declared.watched.Watched.{Watched}
-use Rattle.line_view.proofs.Begun.{begun_on, has_seen, less_of, none_by, seen_still, views_more, views_waits, zero_by}
+use Rattle.line_view.proofs.Begun.{has_seen, less_of, none_by, seen_still, views_more, views_waits, zero_by}
 use Rattle.line_view.proofs.MsiBytes.{turn_msi}
 use Rattle.line_view.proofs.Steps.{was_there, same_own, same_shows}
 

@@ -7,7 +7,8 @@ use Rattle.tributary_model.specs.Laws.{IsTributary}
 use Rattle.tributary_model.specs.Places.{Tributary}
 use Rattle.device_model.specs.Agreements.{AgreeOnTributary}
 use Rattle.device_model.specs.LineViews.{emitted_at}
-use Rattle.line_view.specs.ViewText.{Showing, showing_text, told_at, turns_of}
+use Rattle.line_view.specs.ViewText.{Showing, showing_text, told_at}
+use Rattle.tributary_line.specs.TurnsDone.{turns_of}
 
 -- Lines that agree on a tributary's own places have the same lines of it, turn by turn, whatever stands elsewhere.
 abbrev pub TellsTheSame : Type 0

@@ -2,4 +2,3 @@
 pub mod Watching
 pub mod Viewing
 pub mod ViewRuns
-pub mod Beyond

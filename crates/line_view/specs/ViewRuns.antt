@@ -1,10 +1,10 @@
 -- API: how a view goes: what it took of its line, what its report gained, and why it ended.
-use Rattle.std.specs.Prelude.{◌≡◌, ◌≢◌, ◌<◌, ◌≤◌, ◌+◌, ◌*◌, ◌%◌, ◌==◌, if◌then◌else◌, min, ℕ, zero, suc, Bool, true, false, List, [], ◌++◌, length}
+use Rattle.std.specs.Prelude.{◌≡◌, ◌≢◌, ◌≤◌, ◌+◌, ◌*◌, ◌==◌, if◌then◌else◌, min, ℕ, zero, suc, Bool, false, List, [], ◌++◌, length}
 use Rattle.otn_base.specs.declared.limits.TheConstants.{LINE_FRAME_BYTES}
 use Rattle.port_base.specs.Given.{Gave}
 use Rattle.port_base.specs.PortViews.{SinkView, SinkWrites}
 use Rattle.port_base.specs.Reads.{HasEnded}
-use Rattle.port_base.specs.Views.{InView, Live, Dead}
+use Rattle.port_base.specs.Views.{InView, Live}
 use Rattle.port_base.specs.declared.drain.Written.{Written}
 use Rattle.port_base.specs.declared.drain.Written.TheVariants as written
 use Rattle.port_base.specs.declared.ended.Ended.{Ended}
@@ -13,14 +13,10 @@ use Rattle.line_side.specs.LineFile.{mfas_of}
 use Rattle.line_side.specs.LineForm.{LineForm, size_of, through_mask}
 use Rattle.line_side.specs.Reader.{EndedAs, rest_of}
 use Rattle.line_side.specs.declared.ending.Ending.{Ending}
-use Rattle.line_side.specs.declared.ending.Ending.TheVariants.{Open, Seen}
 use Rattle.multiframe.specs.LineTurns.{wanted}
-use Rattle.line_view.specs.ViewText.{Showing, turns_of, view_text, text_until, turn_text, head_line, end_line}
-
--- what may still stand behind the bytes taken: anything where there may be more, else nothing
-abbrev pub MayFollow : (more : Bool) → (rest : List ℕ) → Type 0
-MayFollow true rest = Unit {0}
-MayFollow false rest = rest ≡ []
+use Rattle.tributary_line.specs.TurnsDone.{MayFollow, bytes_read, turns_of}
+use Rattle.tributary_line.specs.Walking.{LeftAs}
+use Rattle.line_view.specs.ViewText.{Showing, view_text, text_until, turn_text, head_line, end_line}
 
 -- whether the report was written whole
 abbrev pub written_of : Ended → Written
@@ -29,16 +25,6 @@ written_of Done = written.Whole
 written_of Unfinished = written.Whole
 written_of Cut = written.Whole
 written_of Memory = written.Whole
-
--- how many frames the turns of a line of these bytes want: all that their rule looks at, those among them that are not
--- whole included
-abbrev pub frames_wanted : (size : ℕ) → (available : List ℕ) → ℕ
-frames_wanted size available = wanted size (mfas_of available) (length (turns_of size (mfas_of available)))
-
--- how many bytes a view takes of a line: these frames and the one byte more that it asks for, or all where there are
--- fewer
-abbrev pub bytes_read : (size : ℕ) → (available : List ℕ) → ℕ
-bytes_read size available = min (length available) (LINE_FRAME_BYTES * frames_wanted size available + 1)
 
 -- ---- a write that failed
 
@@ -73,21 +59,6 @@ pub record WriteFailed (form : LineForm) (shows : List Showing) (ending : Ending
 
 -- ---- how a view ends
 
--- bytes stand behind the last whole frame: the end of the place was seen, or where more may follow it was not
-abbrev pub EndsBehind : (more : Bool) → Ending → Type 0
-EndsBehind false ending = ending ≡ Seen
-EndsBehind true ending = ending ≡ Open
-
--- What an answer says of the bytes taken: Done where the line has ended with a whole frame, Unfinished where bytes
--- stand behind its last whole frame or it has more than the turns take, and Cut where its place is dead.
-abbrev pub ViewEnds : Ended → Ending → (more : Bool) → (read : List ℕ) → (now : InView) → Type 0
-ViewEnds Done ending more read now = (now.state ≢ Dead) × (more ≡ false) × (length read % LINE_FRAME_BYTES ≡ 0)
-ViewEnds Unfinished ending more read now = (now.state ≢ Dead) × (0 < length read % LINE_FRAME_BYTES)
-    × EndsBehind more ending
-ViewEnds Cut ending more read now = now.state ≡ Dead
-ViewEnds ReportFault ending more read now = Unit {0}
-ViewEnds Memory ending more read now = ⊥
-
 -- A view from the line and the report as they were to how they are. Where no more bytes may follow, a live line has
 -- answered its end. The report gained the text of the view, all of it or, where a write failed, a part of it from the
 -- front.
@@ -102,7 +73,7 @@ pub record ViewEnded (form : LineForm) (shows : List Showing) (first now : InVie
   pub report : (rest : List ℕ) → MayFollow more rest
       → SinkWrites (written_of ended) old (view_text form shows ending (through_mask form.scrambled (read ++ rest)))
       new
-  pub ends : ViewEnds ended ending more read now
+  pub ends : LeftAs ended ending more read now
   pub took : ended ≢ ReportFault → (rest : List ℕ) → MayFollow more rest
       → length read ≡ bytes_read (size_of form) (through_mask form.scrambled (read ++ rest))
   pub failed : ended ≡ ReportFault → (rest : List ℕ) → MayFollow more rest

@@ -1,9 +1,8 @@
 -- API: what a view says of a line, as text: a line for the line itself, then for each turn one of the turn, one of each
 -- MSI byte that came in it and one of each tributary that is shown in it, and a last one where the turns are over.
-use Rattle.std.specs.Prelude.{ℕ, ◌+◌, ◌-◌, ◌/◌, ◌%◌, ◌&&◌, nat_le, nat_lt, not, if◌then◌else◌, Bool, true, false, List, [], ◌∷◌, ◌++◌, Option, Some, None, codes, length, filter, is_some}
+use Rattle.std.specs.Prelude.{ℕ, ◌+◌, ◌-◌, ◌/◌, ◌%◌, ◌&&◌, nat_le, nat_lt, if◌then◌else◌, Bool, true, false, List, [], ◌∷◌, ◌++◌, Option, Some, None, codes, length, is_some}
 use Rattle.std.specs.Fmt.{decimal}
 use Rattle.std.specs.List.{flat_map, range_with_len}
-use Rattle.otn_base.specs.declared.limits.TheConstants.{MOST_TURNS}
 use Rattle.otn_base.specs.declared.line_kind.LineKind.{LineKind}
 use Rattle.otn_base.specs.declared.line_kind.LineKind.TheVariants.{Otu2, Otu3}
 use Rattle.line_side.specs.LineFile.{mfas_of}
@@ -16,6 +15,7 @@ use Rattle.line_side.specs.declared.ending.Ending.TheVariants.{Open}
 use Rattle.maintenance_signals.specs.Stream.{signal_byte}
 use Rattle.maintenance_signals.specs.declared.signal.Signal.TheVariants.{Ais}
 use Rattle.multiframe.specs.LineTurns.{line_state, multiframe, has_ended}
+use Rattle.tributary_line.specs.TurnsDone.{turns_of}
 use Rattle.tributary_model.specs.Carries.{past_of}
 use Rattle.tributary_model.specs.Emission.{emission}
 use Rattle.tributary_model.specs.Places.{Tributary, View}
@@ -184,11 +184,6 @@ unfoldable pub turn_text : LineForm → List Showing → (available : List ℕ) 
 turn_text form shows available t =
     turn_line (t + 1) (seen_at form available t)
     ++ (flat_map msi_line (msi_at_turn form available t) ++ flat_map (showing_text available t) shows)
-
--- The turns that are told, each said by the number of turns before it: 16,384 at most, and none after the one in which
--- the line ended. The list has the MFAS bytes of the line's whole frames.
-unfoldable pub turns_of : (size : ℕ) → (mfas : List ℕ) → List ℕ
-turns_of size ms = filter (λ t. not (has_ended (line_state size ms t))) (range_with_len 0 MOST_TURNS)
 
 -- the lines up to turn t: that of the line, and those of each turn
 abbrev pub text_until : LineForm → List Showing → (available : List ℕ) → (t : ℕ) → List ℕ

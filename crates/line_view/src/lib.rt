@@ -9,7 +9,6 @@
 //! - `laws`: what is proved of views.
 #![tactic(auto)]
 
-mod beyond;
 mod laws;
 mod lines;
 mod msi;

@@ -1,33 +1,31 @@
 // The view of a line, written to a sink.
-ghost use Rattle.std.specs.Prelude.{◌≡◌, ◌≢◌, ◌<◌, ◌+◌, ◌*◌, ℕ, List, [], Some, IfOk, map, length, slice_get, vec_len};
-ghost use Rattle.otn_base.specs.declared.limits.TheConstants.{GROUPS, MOST_SLOTS, MOST_TURNS};
+ghost use Rattle.std.specs.Prelude.{◌≡◌, ◌≢◌, ℕ, IfOk, Some, map, slice_get};
 ghost use Rattle.port_base.specs.InPlace.{in_view};
 ghost use Rattle.port_base.specs.PortViews.{sink_view};
-ghost use Rattle.port_base.specs.Views.{InView};
-ghost use Rattle.line_side.specs.LineForm.{LineForm};
 ghost use Rattle.line_view.specs.ViewRuns.{ViewEnded};
-ghost use Rattle.line_view.specs.Steps.ViewRuns.{TurnRun, FinishRun, AnswerRun};
-ghost use Rattle.line_view.specs.Steps.Viewing.{ViewStands};
+ghost use Rattle.line_view.specs.Steps.ViewRuns.{IsReady, IsNew, form_in, shows_in};
 ghost use Rattle.line_view.specs.Watching.{IsOnLine, asked_of};
-ghost use Rattle.line_view.specs.Steps.Watching.{showing_of};
 
-use crate::beyond::ask_for_more;
 use crate::lines::{write_end, write_head, write_lines};
 use crate::msi::MsiBytes;
 use crate::shown::Shown;
 use crate::turns::do_turn;
 use crate::watched::{Watched, new_watched};
 use arrayvec::ArrayVec;
-use otn_base::LineKind;
-use otn_base::limits::{GROUPS, MOST_SLOTS, MOST_TURNS};
+use otn_base::limits::{GROUPS, MOST_SLOTS};
+use otn_base::{LineKind, Memory};
 use port_base::{Ended, InPlaceOf, Sink, Source, Written};
-use std::alloc::{AllocError, Global};
+use std::alloc::Global;
+use tributary_line::{After, Walker, after_turn, end_walk, walk};
 
-// What comes after a turn.
-enum After {
-    NextTurn,
-    LineEnded,
-    ReportFailed,
+// A line with the tributaries that are watched on it, and room for what a sink emits in a turn.
+#[derive(Drop)]
+struct Viewing {
+    kind: LineKind,
+    scrambled: bool,
+    line: line_side::LineIn,
+    watched: Vec<Watched>,
+    room: Vec<u8>,
 }
 
 /// Writes the view of a line of this kind, scrambled or not, and of these tributaries on it: 16,384 turns at most, up
@@ -47,128 +45,91 @@ pub fn write_view<I: Source, K: Sink>(
         (map asked_of shown.now) (in_view I.Source line.old) (in_view I.Source line.new)
         (sink_view K.Sink report.old) (sink_view K.Sink report.new) result }
 {
-    let Ok(mut input) = line_side::LineIn::new(alloc, kind, scrambled) else {
+    let Ok(mut viewing) = new_viewing(alloc, kind, scrambled, shown) else {
         return Ended::Memory;
     };
-    let Ok(mut watched) = new_watched(alloc, kind, shown) else {
-        return Ended::Memory;
-    };
-    let Ok(mut room) = new_room(alloc) else {
-        return Ended::Memory;
-    };
-    write_turns(
-        kind,
-        scrambled,
-        &mut input,
-        &mut watched,
-        &mut room,
-        line,
-        report,
-    )
+    write_text(&mut viewing, line, report)
 }
 
-// Room for what a sink emits in a turn.
-fn new_room(alloc: Global) -> Result<Vec<u8>, AllocError>
-    ensures { IfOk result (λ room. vec_len room ≡ MOST_SLOTS * (GROUPS + 1)) }
-{
-    vec![in alloc; 0; MOST_SLOTS * (GROUPS + 1)]
-}
-
-// The whole text, of a line before its first turn.
-fn write_turns<I: Source, K: Sink>(
+// They, before the line's first turn.
+fn new_viewing(
+    alloc: Global,
     kind: LineKind,
     scrambled: bool,
-    line: &mut line_side::LineIn,
-    watched: &mut Vec<Watched>,
-    room: &mut [u8],
+    shown: &[Shown],
+) -> Result<Viewing, Memory>
+    requires { (i : ℕ) (asked : Shown) → slice_get shown.now i ≡ Some asked → IsOnLine kind asked }
+    ensures ready { IfOk result IsReady }
+    ensures form { IfOk result (λ viewing. form_in viewing ≡ record { kind = kind; scrambled = scrambled }) }
+    ensures shows { IfOk result (λ viewing. shows_in viewing ≡ map asked_of shown.now) }
+    ensures new { IfOk result IsNew }
+{
+    let line = line_side::LineIn::new(alloc, kind, scrambled)?;
+    let watched = new_watched(alloc, kind, shown)?;
+    let room = vec![in alloc; 0; MOST_SLOTS * (GROUPS + 1)]?;
+    Ok(Viewing {
+        kind,
+        scrambled,
+        line,
+        watched,
+        room,
+    })
+}
+
+// The whole text, and how the view ends.
+fn write_text<I: Source, K: Sink>(
+    viewing: &mut Viewing,
     place: &mut InPlaceOf<I>,
     report: &mut K,
 ) -> Ended
-    requires kind { line.old.kind ≡ kind }
-    requires between { line.old.pieces ≡ 0 }
-    requires room { length room.old ≡ MOST_SLOTS * (GROUPS + 1) }
-    ensures { ((first : InView) → ViewStands
-        (record { kind = kind; scrambled = scrambled }) first first [] 0 line.old watched.old.items [])
-        → ViewEnded (record { kind = kind; scrambled = scrambled }) (map showing_of watched.old.items)
-        (in_view I.Source place.old) (in_view I.Source place.new)
-        (sink_view K.Sink report.old) (sink_view K.Sink report.new) result }
+    requires ready { IsReady viewing.old }
+    requires new { IsNew viewing.old }
+    ensures run { ViewEnded (form_in viewing.old) (shows_in viewing.old) (in_view I.Source place.old)
+        (in_view I.Source place.new) (sink_view K.Sink report.old) (sink_view K.Sink report.new) result }
+    ensures some { result ≢ Ended.Memory }
 {
-    if write_head(report, kind, scrambled) == Written::Lost {
+    if write_head(report, viewing.kind, viewing.scrambled) == Written::Lost {
         return Ended::ReportFault;
     }
-    for t in 0..MOST_TURNS as u32 {
-        match write_turn(kind, t, line, watched, room, place, report) {
-            After::NextTurn => {}
-            After::LineEnded => return finish(t + 1, line, place, report),
-            After::ReportFailed => return Ended::ReportFault,
-        }
-    }
-    finish(MOST_TURNS as u32, line, place, report)
-}
-
-// Does turn t + 1, writes its lines, and says what comes after it.
-fn write_turn<I: Source, K: Sink>(
-    kind: LineKind,
-    t: u32,
-    line: &mut line_side::LineIn,
-    watched: &mut Vec<Watched>,
-    room: &mut [u8],
-    place: &mut InPlaceOf<I>,
-    report: &mut K,
-) -> After
-    requires few { t < MOST_TURNS }
-    requires kind { line.old.kind ≡ kind }
-    requires between { line.old.pieces ≡ 0 }
-    requires room { length room.old ≡ MOST_SLOTS * (GROUPS + 1) }
-    ensures run { (form : LineForm) (first : InView) (read : List ℕ)
-        → ViewStands form first (in_view I.Source place.old) read t line.old watched.old.items []
-        → TurnRun form first (in_view I.Source place.new) read t line.old line.new watched.old.items watched.new.items
-        (sink_view K.Sink report.old) (sink_view K.Sink report.new) result }
-    ensures kind { line.new.kind ≡ kind }
-    ensures between { line.new.pieces ≡ 0 }
-    ensures room { length room.new ≡ length room.old }
-{
-    let mut msi: MsiBytes = ArrayVec::new();
-    let seen = do_turn(kind, t, line, watched, &mut msi, room, place);
-    if write_lines(report, t, seen, msi.as_slice(), watched.as_slice()) == Written::Lost {
-        return After::ReportFailed;
-    }
-    if seen.ended {
-        return After::LineEnded;
-    }
-    After::NextTurn
-}
-
-// Writes the last line, and says how the view ends.
-fn finish<I: Source, K: Sink>(
-    turns: u32,
-    line: &line_side::LineIn,
-    place: &mut InPlaceOf<I>,
-    report: &mut K,
-) -> Ended
-    ensures { FinishRun turns line.now (in_view I.Source place.old) (in_view I.Source place.new)
-        (sink_view K.Sink report.old) (sink_view K.Sink report.new) result }
-{
-    if write_end(report, turns, line.rest()) == Written::Lost {
+    let Some(turns) = walk(viewing, place, report) else {
+        return Ended::ReportFault;
+    };
+    if write_end(report, turns, viewing.line.rest()) == Written::Lost {
         return Ended::ReportFault;
     }
-    answer(line, place)
+    end_walk(viewing.line.end_seen(), viewing.line.rest(), place)
 }
 
-// How the view ends after its last turn.
-fn answer<I: Source>(line: &line_side::LineIn, place: &mut InPlaceOf<I>) -> Ended
-    ensures run { AnswerRun line.now (in_view I.Source place.old) (in_view I.Source place.new) result }
-    ensures written { (result ≢ Ended.ReportFault) × (result ≢ Ended.Memory) }
-{
-    if let InPlaceOf::Dead(..) = place {
-        return Ended::Cut;
-    }
-    if !line.end_seen() {
-        return ask_for_more(place);
-    }
-    if line.rest() == 0 {
-        Ended::Done
-    } else {
-        Ended::Unfinished
+impl Walker for Viewing {
+    ghost use Rattle.line_view.specs.Steps.ViewRuns.{IsReady, ViewHolds, ViewLost, form_in};
+
+    ghost form = { form_in };
+
+    ghost line = { λ v. v.line };
+
+    ghost ready = { IsReady };
+
+    ghost holds = { ViewHolds };
+
+    ghost lost = { ViewLost };
+
+    fn turn<I: Source, K: Sink>(
+        &mut self,
+        t: u32,
+        place: &mut InPlaceOf<I>,
+        report: &mut K,
+    ) -> After {
+        let mut msi: MsiBytes = ArrayVec::new();
+        let seen = do_turn(
+            self.kind,
+            t,
+            &mut self.line,
+            &mut self.watched,
+            &mut msi,
+            &mut self.room,
+            place,
+        );
+        let written = write_lines(report, t, seen, msi.as_slice(), self.watched.as_slice());
+        after_turn(written, seen.ended)
     }
 }

@@ -3,3 +3,7 @@ pub mod TapTurns
 pub mod FeedTurns
 pub mod FileTurns
 pub mod Endings
+pub mod TurnsDone
+pub mod Wanting
+pub mod Walks
+pub mod LineEndings

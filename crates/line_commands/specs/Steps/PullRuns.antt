@@ -1,52 +1,43 @@
--- Steps of `answer` and `write_turn`: what private contracts alone cite, beside the definitions of `PullRuns`.
-use Rattle.std.specs.Prelude.{◌≡◌, ◌≢◌, ◌<◌, ◌⊎◌, ℕ, Bool, true, false, List, [], Option, Some, None, length}
+-- Steps of `write_turns` and `turn`: what private contracts alone cite, beside the definitions of `PullRuns`.
+use Rattle.std.specs.Prelude.{◌≡◌, ◌+◌, ◌*◌, ℕ, List, [], Some, None, length, vec_len}
+use Rattle.otn_base.specs.declared.limits.TheConstants.{GROUPS, OTU2_SLOTS}
 use Rattle.port_base.specs.Bytes.{after}
-use Rattle.port_base.specs.Given.{Gave}
-use Rattle.port_base.specs.Reads.{HasEnded}
-use Rattle.port_base.specs.Views.{InView, Dead}
-use Rattle.line_side.specs.LineStands.{LineView}
-use Rattle.line_side.specs.declared.ending.Ending.TheVariants.{Seen}
-use Rattle.tributary_model.specs.Places.{Tributary}
+use Rattle.port_base.specs.PortViews.{SinkView}
+use Rattle.port_base.specs.Views.{InView}
+use Rattle.port_base.specs.declared.ended.Ended.TheVariants.{ReportFault}
+use Rattle.command_base.specs.Ends.{ReportAfter}
 use Rattle.command_base.specs.Gains.{GainsPart}
-use Rattle.tributary_line.specs.TapTurn.{TapView, TurnMoves}
-use Rattle.line_commands.specs.declared.pull.After.{After}
-use Rattle.line_commands.specs.declared.pull.After.TheVariants as next
-use Rattle.port_base.specs.declared.ended.Ended.{Ended}
-use Rattle.port_base.specs.declared.ended.Ended.TheVariants.{Done, Unfinished, Cut, ReportFault, Memory}
+use Rattle.tributary_model.specs.Places.{Tributary, tributary_of}
+use Rattle.trib_sink.specs.Sink.{StandsAfter}
+use Rattle.device_model.specs.LineViews.{views_until, emitted_at}
+use Rattle.device_model.specs.TurnFrames.{frames_in}
+use Rattle.tributary_line.specs.TapTurn.{TapStands, IsBetweenTurns}
+use Rattle.line_commands.specs.PullReport.{emitted_until}
+use Rattle.line_commands.specs.declared.pull.Pulling.{Pulling}
 
--- what a turn wrote of the bytes that it emitted
-abbrev pub TurnWrote : After → (ended : Bool) → (old new : Option (List ℕ)) → (emitted : List ℕ) → Type 0
-TurnWrote next.NextTurn ended old new emitted = (new ≡ after old emitted) × (ended ≡ false)
-TurnWrote next.LineEnded ended old new emitted = (new ≡ after old emitted) × (ended ≡ true)
-TurnWrote next.ReportFailed ended old new emitted = GainsPart old new emitted
+-- the tributary whose sink it is
+abbrev pub own_of : Pulling → Tributary
+own_of pulling = tributary_of pulling.tap.sink.slots pulling.tap.sink.port
 
--- turn t + 1, from the line and the report as they were to how they are
-pub record TurnRun (own : Tributary) (first now : InView) (read : List ℕ) (t : ℕ) (before later : TapView)
-    (old new : Option (List ℕ)) (answer : After) : Type 0 where
-  pub emitted : List ℕ
-  pub moves : TurnMoves own first now read t before later emitted
-  pub wrote : TurnWrote answer later.line.ended old new emitted
+-- it stands between turns, with room for what one emits
+pub record IsReady (pulling : Pulling) : Type 0 where
+  pub between : IsBetweenTurns pulling.tap
+  pub room : vec_len pulling.room ≡ length pulling.tap.sink.slots.list * (GROUPS + 1)
 
--- how the command ends after the last turn: by the rest where the end was seen, else by one byte more
-abbrev pub AnswerEnds : Ended → (line : LineView) → (further : List ℕ) → (was now : InView) → Type 0
-AnswerEnds Done line further was now =
-    (now.state ≢ Dead) × (further ≡ []) × (((line.reader.ending ≡ Seen) × (line.reader.rest ≡ 0) × (now ≡ was))
-    ⊎ ((line.reader.ending ≢ Seen) × HasEnded now.left now.ended))
-AnswerEnds Unfinished line further was now =
-    (now.state ≢ Dead) × (((line.reader.ending ≡ Seen) × (0 < line.reader.rest) × (further ≡ []) × (now ≡ was))
-    ⊎ ((line.reader.ending ≢ Seen) × (length further ≡ 1)))
-AnswerEnds Cut line further was now = (now.state ≡ Dead) × (further ≡ [])
-    × ((now ≡ was) ⊎ ((line.reader.ending ≢ Seen) × (now.ended ≡ was.ended)))
-AnswerEnds ReportFault line further was now = ⊥
-AnswerEnds Memory line further was now = ⊥
+-- it stands before the first turn of its line
+abbrev pub IsNew : Pulling → Type 0
+IsNew pulling = (first : InView) → TapStands (own_of pulling) first first [] 0 pulling.tap
 
--- how the command ends: the further bytes after the last turn, one at most, and the answer
-pub record AnswerRun (line : LineView) (was now : InView) (ended : Ended) : Type 0 where
-  pub further : List ℕ
-  pub gave : Gave was further now
-  pub ends : AnswerEnds ended line further was now
+-- after t turns of a line of these bytes: the sink has seen them, and what it emitted is written
+pub record PullHolds (origin now : Pulling) (was is : SinkView) (available : List ℕ) (t : ℕ) : Type 0 where
+  pub size : (own_of origin).line_slots ≡ OTU2_SLOTS
+  pub sink : StandsAfter (own_of origin) (views_until (own_of origin) available t)
+      (frames_in OTU2_SLOTS available t now.tap.line.pieces) now.tap.sink
+  pub wrote : is.got ≡ after was.got (emitted_until (own_of origin) available t)
+  pub report : ReportAfter None was is
 
--- how the write of a turn ends the command
-abbrev pub fault_of : After → Option Ended
-fault_of next.ReportFailed = Some ReportFault
-fault_of other = None
+-- after t turns and one whose bytes were written in part
+pub record PullLost (origin now : Pulling) (was is : SinkView) (available : List ℕ) (t : ℕ) : Type 0 where
+  pub wrote : GainsPart (after was.got (emitted_until (own_of origin) available t)) is.got
+      (emitted_at (own_of origin) available t)
+  pub report : ReportAfter (Some ReportFault) was is

@@ -1,23 +1,18 @@
--- Steps of `finish`, `answer` and others: what private contracts alone cite, beside the definitions of `ViewRuns`.
-use Rattle.std.specs.Prelude.{◌≡◌, ◌≢◌, ◌<◌, ◌⊎◌, ◌+◌, if◌then◌else◌, ℕ, Bool, true, false, List, [], ◌++◌, length, flat_map}
-use Rattle.port_base.specs.Given.{Gave}
+-- Steps of `write_text`, `turn` and others: what private contracts alone cite, beside the definitions of `ViewRuns`.
+use Rattle.std.specs.Prelude.{◌≡◌, ◌+◌, ◌*◌, if◌then◌else◌, ℕ, List, [], ◌++◌, Some, flat_map, map, slice_get, vec_len}
+use Rattle.otn_base.specs.declared.limits.TheConstants.{GROUPS, MOST_SLOTS}
 use Rattle.port_base.specs.PortViews.{SinkView, SinkWrites}
-use Rattle.port_base.specs.Reads.{HasEnded}
-use Rattle.port_base.specs.Views.{InView, Dead}
+use Rattle.port_base.specs.Views.{InView}
 use Rattle.port_base.specs.declared.drain.Written.TheVariants as written
-use Rattle.port_base.specs.declared.ended.Ended.{Ended}
-use Rattle.port_base.specs.declared.ended.Ended.TheVariants.{Done, Unfinished, Cut, ReportFault, Memory}
-use Rattle.line_side.specs.LineForm.{LineForm}
-use Rattle.line_side.specs.LineStands.{LineView}
-use Rattle.line_side.specs.declared.ending.Ending.TheVariants.{Seen}
-use Rattle.line_view.specs.ViewText.{is_shown, end_line, turn_line, msi_line, tributary_line}
-use Rattle.line_view.specs.Steps.Viewing.{TurnMoves}
+use Rattle.line_side.specs.LineForm.{LineForm, size_of}
+use Rattle.tributary_model.specs.Places.{msi_in}
+use Rattle.device_model.specs.TurnFrames.{frames_in}
+use Rattle.line_view.specs.ViewText.{Showing, all_slots, is_shown, turn_line, msi_line, tributary_line, turn_text, text_until}
+use Rattle.line_view.specs.Steps.Viewing.{ViewStands, IsInStep, HasSeen}
 use Rattle.line_view.specs.Steps.Watching.{showing_of}
 use Rattle.line_view.specs.declared.told.TurnSeen.{TurnSeen}
-use Rattle.line_view.specs.declared.viewing.After.{After}
-use Rattle.line_view.specs.declared.viewing.After.TheVariants as next
+use Rattle.line_view.specs.declared.viewing.Viewing.{Viewing}
 use Rattle.line_view.specs.declared.watched.Watched.{Watched}
-use Rattle.line_view.specs.ViewRuns.{written_of}
 
 -- the line of a tributary in turn t + 1, where that is one of its turns
 abbrev pub watched_line : (t : ℕ) → Watched → List ℕ
@@ -28,41 +23,36 @@ watched_line t one = if is_shown (showing_of one) t
 unfoldable pub lines_of : (t : ℕ) → TurnSeen → (msi : List (ℕ × ℕ)) → List Watched → List ℕ
 lines_of t seen msi watched = turn_line (t + 1) seen ++ (flat_map msi_line msi ++ flat_map (watched_line t) watched)
 
--- what a turn wrote of its lines
-abbrev pub TurnWrote : After → (ended : Bool) → (old new : SinkView) → (lines : List ℕ) → Type 0
-TurnWrote next.NextTurn ended old new lines = SinkWrites written.Whole old lines new × (ended ≡ false)
-TurnWrote next.LineEnded ended old new lines = SinkWrites written.Whole old lines new × (ended ≡ true)
-TurnWrote next.ReportFailed ended old new lines = SinkWrites written.Lost old lines new
+-- what is fixed of its line
+abbrev pub form_in : Viewing → LineForm
+form_in viewing = record { kind = viewing.kind; scrambled = viewing.scrambled }
 
--- turn t + 1, from the line and the report as they were to how they are
-pub record TurnRun (form : LineForm) (first now : InView) (read : List ℕ) (t : ℕ) (line later : LineView)
-    (olds news : List Watched) (old new : SinkView) (answer : After)
-    : Type 0 where
-  pub seen : TurnSeen
-  pub msi : List (ℕ × ℕ)
-  pub moves : TurnMoves form first now read t line later olds news seen msi
-  pub wrote : TurnWrote answer seen.ended old new (lines_of t seen msi news)
+-- the tributaries that it shows
+abbrev pub shows_in : Viewing → List Showing
+shows_in viewing = map showing_of viewing.watched.items
 
--- how a view ends after its last turn: by the rest where the end was seen, else by one byte more, unless a write failed
-abbrev pub AnswerEnds : Ended → (line : LineView) → (further : List ℕ) → (was now : InView) → Type 0
-AnswerEnds Done line further was now =
-    (now.state ≢ Dead) × (further ≡ []) × (((line.reader.ending ≡ Seen) × (line.reader.rest ≡ 0) × (now ≡ was))
-    ⊎ ((line.reader.ending ≢ Seen) × HasEnded now.left now.ended))
-AnswerEnds Unfinished line further was now =
-    (now.state ≢ Dead) × (((line.reader.ending ≡ Seen) × (0 < line.reader.rest) × (further ≡ []) × (now ≡ was))
-    ⊎ ((line.reader.ending ≢ Seen) × (length further ≡ 1)))
-AnswerEnds Cut line further was now = (now.state ≡ Dead) × (further ≡ []) × ((now ≡ was) ⊎ (line.reader.ending ≢ Seen))
-AnswerEnds ReportFault line further was now = (further ≡ []) × (now ≡ was)
-AnswerEnds Memory line further was now = ⊥
+-- it stands between turns, with room for what a sink emits in one
+pub record IsReady (viewing : Viewing) : Type 0 where
+  pub kind : viewing.line.kind ≡ viewing.kind
+  pub between : viewing.line.pieces ≡ 0
+  pub room : vec_len viewing.room ≡ MOST_SLOTS * (GROUPS + 1)
 
--- how a view ends: the further bytes after the last turn, one at most, and the answer
-pub record AnswerRun (line : LineView) (was now : InView) (ended : Ended) : Type 0 where
-  pub further : List ℕ
-  pub gave : Gave was further now
-  pub ends : AnswerEnds ended line further was now
+-- it stands before the first turn of its line
+abbrev pub IsNew : Viewing → Type 0
+IsNew viewing = (first : InView) → ViewStands (form_in viewing) first first [] 0 viewing.line viewing.watched.items []
 
--- the same, with the last line of the text
-pub record FinishRun (turns : ℕ) (line : LineView) (was now : InView) (old new : SinkView)
-    (ended : Ended) : Type 0 where
-  pub answer : AnswerRun line was now ended
-  pub wrote : SinkWrites (written_of ended) old (end_line turns line.reader.rest) new
+-- after t turns of a line of these bytes: the sinks have seen them, and the text up to there is written
+pub record ViewHolds (origin now : Viewing) (was is : SinkView) (available : List ℕ) (t : ℕ) : Type 0 where
+  pub step : (i : ℕ) (one : Watched) → slice_get now.watched.items i ≡ Some one → IsInStep now.line t one
+  pub sinks : (i : ℕ) (one : Watched) → slice_get now.watched.items i ≡ Some one
+      → HasSeen (form_in origin) available t now.line.pieces one
+  pub msi : [] ≡ flat_map (msi_in (all_slots (form_in origin)))
+      (frames_in (size_of (form_in origin)) available t now.line.pieces)
+  pub shows : shows_in now ≡ shows_in origin
+  pub wrote : SinkWrites written.Whole was (text_until (form_in origin) (shows_in origin) available t) is
+
+-- after t turns and one whose text was written in part
+pub record ViewLost (origin now : Viewing) (was is : SinkView) (available : List ℕ) (t : ℕ) : Type 0 where
+  pub between : SinkView
+  pub wrote : SinkWrites written.Whole was (text_until (form_in origin) (shows_in origin) available t) between
+  pub lost : SinkWrites written.Lost between (turn_text (form_in origin) (shows_in origin) available t) is

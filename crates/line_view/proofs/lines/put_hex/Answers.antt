@@ -1,4 +1,4 @@
-use Rattle.std.proofs.Common.{◌≡◌, ◌++◌, ◌∷◌, ◌/◌, ◌∙◌, ap, append_assoc}
+use Rattle.std.proofs.Common.{◌++◌, ◌∷◌, ◌/◌, ◌∙◌, ap, append_assoc}
 use Rattle.line_view.specs.ViewText.{hex_digit, hex_text}
 use Rattle.line_view.proofs.lines.put_hex.Goals as goal
 

@@ -1,5 +1,4 @@
-use Rattle.std.proofs.Common.{◌≡◌, ◌≢◌, ◌≤◌, ◌<◌, ◌+◌, ◌-◌, ◌++◌, ◌∷◌, [], ◌∙◌, ap, sym, arith, append-nil}
-use Rattle.std.specs.List.{range_with_len}
+use Rattle.std.proofs.Common.{◌-◌, ◌++◌, ◌∷◌, [], ◌∙◌, ap, sym, arith}
 use Rattle.otn_base.specs.LineSlots.{slots_of}
 use Rattle.line_view.proofs.MsiBytes.{msi_one}
 use Rattle.line_view.proofs.msi.note_msi.Goals as goal

@@ -1,4 +1,4 @@
-use Rattle.std.proofs.Common.{◌≤◌, ◌∙◌, ◌+◌, ◌++◌, ap, length, arith}
+use Rattle.std.proofs.Common.{◌∙◌, ◌+◌, ◌++◌, ap, length, arith}
 use Rattle.port_base.specs.InPlace.{in_view}
 use Rattle.line_view.proofs.Pieces.{moves_none, moves_twice}
 use Rattle.line_view.proofs.turns.take_frames.Goals as goal

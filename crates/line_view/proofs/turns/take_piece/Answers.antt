@@ -1,7 +1,6 @@
 use Rattle.std.proofs.Common.{◌≡◌, ◌<◌, ◌+◌, ◌∙◌, ◌++◌, ap, sym, subst, arith}
 use Rattle.std.specs.List.{range_with_len}
 use Rattle.otn_base.specs.LineSlots.{slots_of}
-use Rattle.otn_base.specs.declared.line_kind.LineKind.{LineKind}
 use Rattle.port_base.specs.InPlace.{in_view}
 use Rattle.line_side.specs.LineForm.{LineForm}
 use Rattle.line_side.specs.LineStands.{frames_taken}

@@ -1,4 +1,4 @@
--- What was taken of a line after the last turn of a view.
+-- What was taken of a line after the last turn of a walk.
 use Rattle.std.proofs.Common.{◌≡◌, ◌<◌, ◌≢◌, ◌≤◌, ◌+◌, ◌*◌, ◌∙◌, ℕ, zero, suc, Bool, true, false, cond, List, Option, Some, None, length, min, max, refl, sym, ap, subst, arith}
 use Rattle.std.specs.Prelude.{nat_le, slice_index}
 use Rattle.line_side.specs.LineFile.{mfas_of}
@@ -7,8 +7,7 @@ use Rattle.line_side.specs.Reader.{HasRead, ReaderView}
 use Rattle.line_side.specs.declared.ending.Ending.{Ending}
 use Rattle.line_side.specs.declared.ending.Ending.TheVariants.{Open, Seen, Died}
 use Rattle.multiframe.specs.LineTurns.{Lock, LineState, Hunting, Locked, Ended, Outcome, CutShort, Lost, Whole, lock_from, least_start, outcome_of, after_outcome, after_hunt, after_turn, line_state, wanted, wanted_in, wanted_from, wanted_so_far, used_in}
-use Rattle.line_view.specs.ViewText.{turns_of}
-use Rattle.line_view.specs.ViewRuns.{frames_wanted}
+use Rattle.tributary_line.specs.TurnsDone.{frames_wanted, turns_of}
 
 -- ---- between turns nothing more is wanted than by the turns before
 

@@ -1,9 +1,9 @@
--- The turns that a view tells, as they are done.
+-- The turns that are done of a line, as a walk does them.
 use Rattle.std.proofs.Common.{◌≡◌, ◌<◌, ◌≤◌, ◌+◌, ◌-◌, ◌∙◌, ◌⊎◌, inl, inr, ℕ, zero, suc, Bool, true, false, cond, not, List, [], ◌∷◌, ◌++◌, length, filter, refl, ap, subst, arith, append-nil, length-append}
 use Rattle.std.specs.List.{range_with_len}
 use Rattle.std.proofs.lemmas.List.FromFn.{length-range_with_len}
 use Rattle.multiframe.specs.LineTurns.{LineState, Hunting, Locked, Ended, line_state, after_turn, has_ended}
-use Rattle.line_view.specs.ViewText.{turns_of}
+use Rattle.tributary_line.specs.TurnsDone.{turns_of}
 
 -- of the numbers from a on, the first n of which pass, what passes is these and what passes of those from b on
 passes_first : (p : ℕ → Bool) (a b n more most : ℕ) → most ≡ n + more → b ≡ a + n → ((x : ℕ) → a ≤ x → x < b → p x ≡ true)
@@ -41,7 +41,7 @@ after_ended size ms (Locked lock) e = absurd (cc)
 after_ended size ms Ended e = refl
 
 -- a line that has ended stays so
-stays_ended : (size : ℕ) (ms : List ℕ) (n k t : ℕ) → t ≡ n + k → has_ended (line_state size ms n) ≡ true → has_ended (line_state size ms t) ≡ true
+pub stays_ended : (size : ℕ) (ms : List ℕ) (n k t : ℕ) → t ≡ n + k → has_ended (line_state size ms n) ≡ true → has_ended (line_state size ms t) ≡ true
 unfolding line_state
 stays_ended size ms n zero t e ended = let same : n ≡ t = omega arith in subst (λ i. has_ended (line_state size ms i) ≡ true) same ended
 stays_ended size ms n (suc k) t e ended =
