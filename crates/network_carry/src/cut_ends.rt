@@ -33,7 +33,7 @@ pub struct CutSource {
 }
 
 /// The two ends of the fibre of this number, from 1, with these cuts, on a line of so many bytes a turn.
-pub fn cut_ends(
+pub fn cut_fibre(
     alloc: Global,
     cuts: &[Cut],
     number: usize,

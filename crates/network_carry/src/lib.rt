@@ -22,7 +22,7 @@ mod recording;
 mod turns;
 
 pub use carry::{Carried, carry_network};
-pub use cut_ends::{CutSink, CutSource, cut_ends};
+pub use cut_ends::{CutSink, CutSource, cut_fibre};
 pub use ends::{begins_at, leads_to, near_end_at, turn_bytes};
 pub use opening::open_site;
 pub use outside::{Outside, OutsideSink};

@@ -1,7 +1,7 @@
 // The ends of the fibres of a network that are cut.
 use crate::files::{NodePlaces, RunSink, RunSource};
 use crate::reading::Joined;
-use network_carry::{Outside, OutsideSink, Recording, cut_ends, turn_bytes};
+use network_carry::{Outside, OutsideSink, Recording, cut_fibre, turn_bytes};
 use network_run::NetIn;
 use otn_base::limits::LINES;
 use otn_base::{Memory, PortName};
@@ -42,7 +42,7 @@ fn put_ends(
     };
     let room = turn_bytes(plan, PortName::LineOut(fibre.from_line()));
     let cuts = joined.file.cuts.as_slice();
-    let (sink, source) = cut_ends(alloc, cuts, index + 1, room)?;
+    let (sink, source) = cut_fibre(alloc, cuts, index + 1, room)?;
     let place = OutPlaceOf::Live(OutsideSink::Cut(sink), 0);
     recordings.push(Recording::new(fibre.from_node(), fibre.from_line(), place))?;
     if uses(next, PortName::LineIn(fibre.to_line())) {
