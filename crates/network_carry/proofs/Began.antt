@@ -12,10 +12,12 @@ use Rattle.plan_file.specs.declared.plan.Plan.{Plan}
 use Rattle.plan_file.proofs.Lists.{slice_get_known}
 use Rattle.live_laws.specs.Live.{holding}
 use Rattle.network_laws.specs.Networks.{FibreEnds, IsNetwork}
+use Rattle.network_file.specs.Cuts.{whole_fibres, whole_network}
 use Rattle.network_file.specs.Joining.{network_of}
 use Rattle.network_file.specs.Sound.{IsSound}
 use Rattle.network_file.specs.declared.file.NetworkFile.{NetworkFile}
 use Rattle.network_file.proofs.Places.{is_element, mapped_at}
+use Rattle.network_file.proofs.Uncut.{whole_has, whole_is_network}
 use Rattle.network_run.specs.Beginning.{AtFirst}
 use Rattle.network_run.specs.Ending.{AreSettled, RanAsNetwork}
 use Rattle.network_run.specs.Going.{ends_of, KeepsGoing, SameFibre, IsFull}
@@ -27,13 +29,14 @@ use Rattle.network_run.proofs.Going.{some_at}
 use Rattle.network_carry.specs.Carried.{places_of, first_of, AreOf}
 use Rattle.network_carry.specs.Fillings.{IsNear, new_filling}
 use Rattle.network_carry.specs.Opening.{AreOpened}
+use Rattle.network_carry.proofs.Apart.{AreApart, whole_apart}
 
 -- ---- its fibres
 
 -- the indexes of a sound file's nodes have 32 bits
-pub all_near : (file : NetworkFile) → IsSound file → (f : FibreEnds) → Contains file.fibres f → IsNear f
+pub all_near : (file : NetworkFile) → IsSound file → (f : FibreEnds) → Contains (whole_fibres file) f → IsNear f
 all_near file sound f has =
-    let ends = sound.ends f has in
+    let ends = sound.ends f (whole_has file f has) in
     let most = sound.nodes in
     let here = ends.0 in
     let there = ends.1 in
@@ -60,8 +63,8 @@ are_of fibres was is new same = record {
 -- ---- its nodes
 
 module _ {P K : Type 0} (p : source.Ghosts P) (k : sink.Ghosts K) (file : NetworkFile) (plans : List Plan) (sites : List (Site P K))
-    (sound : IsSound file) (net : IsNetwork (network_of file plans)) (opened : AreOpened p k file.fibres plans sites) where
-  near_end : (f : FibreEnds) → Contains file.fibres f → (line_out_at (first_of p k sites f.here) f.out).got ≡ Some []
+    (sound : IsSound file) (net : IsNetwork (whole_network file plans)) (opened : AreOpened p k (whole_fibres file) plans sites) where
+  near_end : (f : FibreEnds) → Contains (whole_fibres file) f → (line_out_at (first_of p k sites f.here) f.out).got ≡ Some []
   near_end f has =
       let ends = net.ends f has in
       let plan = some_at plans f.here ends.0 in
@@ -69,7 +72,7 @@ module _ {P K : Type 0} (p : source.Ghosts P) (k : sink.Ghosts K) (file : Networ
       ap (λ bays. (line_out_at bays f.out).got) (ap (places_of p k) site.1)
       ∙ ap (λ (v : OutView). v.got) ((opened.each f.here plan.0 site.0 plan.1 site.1).near f has refl ends.2)
 
-  far_end : (f : FibreEnds) → Contains file.fibres f → line_in_at (first_of p k sites f.there) f.into ≡ holding []
+  far_end : (f : FibreEnds) → Contains (whole_fibres file) f → line_in_at (first_of p k sites f.there) f.into ≡ holding []
   far_end f has =
       let ends = net.ends f has in
       let plan = some_at plans f.there ends.1 in
@@ -78,25 +81,26 @@ module _ {P K : Type 0} (p : source.Ghosts P) (k : sink.Ghosts K) (file : Networ
       ∙ (opened.each f.there plan.0 site.0 plan.1 site.1).far f has refl ends.3
 
   -- so it is before its first turn
-  pub at_first : (fillings : List Filling) → fillings ≡ map new_filling file.fibres
-      → AtFirst p k (network_of file plans) (first_of p k sites) sites fillings
+  pub at_first : (fillings : List Filling) → fillings ≡ map new_filling (whole_fibres file)
+      → AtFirst p k (whole_network file plans) (first_of p k sites) sites fillings
   at_first fillings new =
-      let known : (n : ℕ) (g : Filling) → slice_get fillings n ≡ Some g → slice_get (map new_filling file.fibres) n ≡ Some g =
+      let whole = whole_fibres file in
+      let known : (n : ℕ) (g : Filling) → slice_get fillings n ≡ Some g → slice_get (map new_filling (whole_fibres file)) n ≡ Some g =
       λ n g at. sym (ap (λ l. slice_get l n) new) ∙ at in
       record {
         count = opened.count;
         nodes = λ i plan site at here first. (opened.each i plan site at here).node first;
         places = λ i site at. sym (ap (places_of p k) at);
         fibres = record {
-          has = λ n f at. is_element file.fibres n (ends_of f.span) (from_fibre file.fibres n f (known n f at));
+          has = λ n f at. is_element whole n (ends_of f.span) (from_fibre whole n f (known n f at));
           once = λ m n f g at here there into.
-              sound.single m n (ends_of f.span) (ends_of g.span) (from_fibre file.fibres m f (known m f at))
-              (from_fibre file.fibres n g (known n g here)) there into;
+              whole_apart file sound m n (ends_of f.span) (ends_of g.span) (from_fibre whole m f (known m f at))
+              (from_fibre whole n g (known n g here)) there into;
         };
         near = near_end;
         far = λ f has. ap (λ (v : InView). v.left) (far_end f has);
         live = λ f has. ap (λ (v : InView). v.state) (far_end f has);
-        marks = λ n f at. unmarked file.fibres n f (known n f at);
+        marks = λ n f at. unmarked whole n f (known n f at);
       }
 
 -- ---- what it ran as
@@ -104,9 +108,10 @@ module _ {P K : Type 0} (p : source.Ghosts P) (k : sink.Ghosts K) (file : Networ
 -- where it stood at all moments, and was settled
 pub ran_so : {P K : Type 0} (p : source.Ghosts P) (k : sink.Ghosts K) (file : NetworkFile) (plans : List Plan) (olds mids news : List (Site P K))
     (was is : List Filling) (numbers : List RunNumbers) → IsSound file → length plans ≡ length file.nodes → IsNetwork (network_of file plans)
-    → AreOpened p k file.fibres plans olds → was ≡ map new_filling file.fibres → KeepsGoing p k olds was mids is
+    → AreOpened p k (whole_fibres file) plans olds → was ≡ map new_filling (whole_fibres file) → KeepsGoing p k olds was mids is
     → ((n : ℕ) (f : Filling) → slice_get is n ≡ Some f → f.whole ≡ true → IsFull p k mids f) → AreSettled p k mids news numbers
-    → RanAsNetwork p k (network_of file plans) (first_of p k olds) news numbers is
+    → RanAsNetwork p k (whole_network file plans) (first_of p k olds) news numbers is
 ran_so p k file plans olds mids news was is numbers sound count net opened new keeps full settled =
-    (runs_as_network p k olds mids news was is numbers keeps full settled).ran (network_of file plans) (first_of p k olds) net
-    (let some = sound.some in omega arith) (at_first p k file plans olds sound net opened was new)
+    let left = whole_is_network file plans net in
+    (runs_as_network p k olds mids news was is numbers keeps full settled).ran (whole_network file plans) (first_of p k olds) left
+    (let some = sound.some in omega arith) (at_first p k file plans olds sound left opened was new)

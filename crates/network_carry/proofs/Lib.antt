@@ -1,3 +1,4 @@
+pub mod Apart
 pub mod Began
 pub mod Opened
 pub mod PutEnds

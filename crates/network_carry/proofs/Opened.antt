@@ -61,7 +61,11 @@ module _ {P K : Type 0} (p : source.Ghosts P) (k : sink.Ghosts K) (fibres : List
       → SiteOpens p k fibres n plan site → OpenedBelow n sites → OpenedBelow (n + 1) (sites ++ site ∷ [])
   opened_more n sites plan site known opens h = record {
     count = length-append sites (site ∷ []) ∙ ap (λ m. m + 1) h.count;
-    each = λ i other is at here. elim (below_or_here i n (let within = slice_get_within (sites ++ site ∷ []) i is here in let all = length-append sites (site ∷ []) in let count = h.count in omega arith))
+    each = λ i other is at here. elim (below_or_here i n (
+        let within = slice_get_within (sites ++ site ∷ []) i is here in
+        let all = length-append sites (site ∷ []) in
+        let count = h.count in
+        omega arith))
         as (λ t. SiteOpens p k fibres i other is) [
           | inl l ↦ h.each i other is at (sym (get_front sites (site ∷ []) i (let count = h.count in omega arith)) ∙ here)
           | inr e ↦

@@ -2,3 +2,4 @@ pub mod Carried
 pub mod Ends
 pub mod Fillings
 pub mod Opening
+pub mod Outside

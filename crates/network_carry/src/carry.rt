@@ -1,6 +1,7 @@
 // A network, from its first turn to the numbers of its nodes.
 ghost use Rattle.std.specs.Prelude.{◌≡◌, IfOk, length, map};
 ghost use Rattle.network_laws.specs.Networks.{IsNetwork};
+ghost use Rattle.network_file.specs.Cuts.{whole_fibres, whole_network};
 ghost use Rattle.network_file.specs.Joining.{network_of};
 ghost use Rattle.network_file.specs.Sound.{IsSound};
 ghost use Rattle.network_run.specs.Ending.{RanAsNetwork};
@@ -27,13 +28,14 @@ const MOST_TURN_BYTES: usize = 32 * LINE_FRAME_BYTES;
 pub struct Carried {
     /// The numbers of each node.
     pub numbers: Vec<RunNumbers>,
-    /// Each fibre: how many bytes went over it, and whether that is all that was written to it.
+    /// Each fibre that is not cut: how many bytes went over it, and whether that is all that was written to it.
     pub fillings: Vec<Filling>,
 }
 
 /// Runs the network of an accepted file and these plans, turn by turn to the end, over the places of its nodes, which
-/// are before turn 1, in the order of the file. Its fibres are in memory, and may lead round. It answers `Memory` where
-/// there is none for its room, of a turn of a line, of the fibres and of the numbers: it has done nothing then.
+/// are before turn 1, in the order of the file. Its fibres are in memory, and may lead round. A fibre that is cut is none
+/// of the network: its ends are a line to the outside and one from there. It answers `Memory` where there is none for its
+/// room, of a turn of a line, of the fibres and of the numbers: it has done nothing then.
 ///
 /// A port that fails kills its own place and no other. What goes over a fibre that is recorded is written beside.
 pub fn carry_network<P: Source, K: Sink, R: Sink>(
@@ -46,16 +48,17 @@ pub fn carry_network<P: Source, K: Sink, R: Sink>(
     requires sound { IsSound file.now }
     requires count { length plans.now ≡ length file.now.nodes }
     requires network { IsNetwork (network_of file.now plans.now) }
-    requires opened { AreOpened P.Source K.Sink file.now.fibres plans.now sites.old.items }
+    requires opened { AreOpened P.Source K.Sink (whole_fibres file.now) plans.now sites.old.items }
 
-    // it was a run of this network, from these places
-    ensures ran { IfOk result (λ it. RanAsNetwork P.Source K.Sink (network_of file.now plans.now)
+    // it was a run of this network without the fibres that are cut, from these places
+    ensures ran { IfOk result (λ it. RanAsNetwork P.Source K.Sink (whole_network file.now plans.now)
         (first_of P.Source K.Sink sites.old.items) sites.new.items it.numbers.items it.fillings.items) }
 
-    // the fibres are those of the file, in its order
-    ensures fibres { IfOk result (λ it. AreOf file.now.fibres it.fillings.items) }
+    // the fibres are those of the file that are not cut, in its order
+    ensures fibres { IfOk result (λ it. AreOf (whole_fibres file.now) it.fillings.items) }
 {
-    let mut fillings = new_fillings(alloc, file.fibres.as_slice())?;
+    let whole = file.whole_fibres(alloc)?;
+    let mut fillings = new_fillings(alloc, whole.as_slice())?;
     let mut frames = Vec::with_capacity(alloc, MOST_TURN_BYTES)?;
     let room = Vec::with_capacity(alloc, sites.len())?;
     do_all_turns(&mut fillings, sites, &mut frames, recordings);

@@ -89,6 +89,17 @@ fn zeros(alloc: Global, count: usize) -> Result<Vec<u8>, Memory> {
     Ok(vec![in alloc; 0; count]?)
 }
 
+/// The near end of fibres at this line output of the node of the plan, with room for what leaves in a turn.
+pub fn near_end_at<K: Sink>(
+    alloc: Global,
+    plan: &Plan,
+    b: u8,
+) -> Result<OutPlaceOf<NetOut<K>>, Memory>
+    ensures { IfOk result (λ place. out_view (net_sink K.Sink) place ≡ telling) }
+{
+    near_end(alloc, turn_bytes(plan, PortName::LineOut(b)))
+}
+
 /// Puts the near end of all fibres that begin at a line output of the node with this index there, with room for what
 /// leaves in a turn. A place that stood there is dropped.
 pub(crate) fn put_near_ends<P: Source, K: Sink>(
@@ -120,7 +131,7 @@ fn put_near_end<P: Source, K: Sink>(
         (rack_view P.Source K.Sink bays.new)) }
 {
     if begins_at(fibres, node, b) {
-        let end = near_end(alloc, turn_bytes(plan, PortName::LineOut(b)))?;
+        let end = near_end_at(alloc, plan, b)?;
         bays.set_line_out(b, end);
     }
     Ok(())
@@ -135,8 +146,8 @@ pub fn begins_at(fibres: &[FibreEnds], node: usize, b: u8) -> bool
         .any(|f| f.from_node() == node && f.from_line() == b)
 }
 
-// How many bytes come or leave on a line in a turn: none where the plan does not use it.
-fn turn_bytes(plan: &Plan, line: PortName) -> usize {
+/// How many bytes come or leave on a line in a turn: none where the plan does not use it.
+pub fn turn_bytes(plan: &Plan, line: PortName) -> usize {
     if uses(plan, line) {
         frames_of(plan, line) * LINE_FRAME_BYTES
     } else {

@@ -40,7 +40,8 @@ found false number cuts f fibres zero x at later = is_element (f ∷ fibres) 0 x
 found false number cuts f fibres (suc j) x at later =
     let has = later j at in is_element (f ∷ fibres) (suc has.0) x (element_of fibres x has)
 
-has_from : (number : ℕ) (cuts : List Cut) (fibres : List FibreEnds) (j : ℕ) (x : FibreEnds) → slice_get (whole_from number cuts fibres) j ≡ Some x
+-- so each whole one
+pub has_from : (number : ℕ) (cuts : List Cut) (fibres : List FibreEnds) (j : ℕ) (x : FibreEnds) → slice_get (whole_from number cuts fibres) j ≡ Some x
     → Contains fibres x
 has_from number cuts [] j x at = cc
 has_from number cuts (f ∷ fibres) j x at =

@@ -1,6 +1,8 @@
 // The files of a node of a network that is run.
+ghost use Rattle.std.specs.Prelude.{◌<◌};
+
 use crate::marks::Marks;
-use network_carry::{begins_at, leads_to};
+use network_carry::{Outside, OutsideSink, begins_at, leads_to, near_end_at};
 use network_file::FibreEnds;
 use network_run::{NetIn, NetOut};
 use otn_base::limits::{CLIENTS, LINES};
@@ -12,16 +14,24 @@ use program_words::{InputFile, Opened, OutputFile, opened_input};
 use std::fs;
 use turn_pieces::uses;
 
-/// The places of a node: files, and the ends of fibres.
-pub(crate) type NodePlaces = Rack<NetIn<FileSource>, NetOut<FileSink>>;
+/// What an input from outside reads: a file, or the far end of a fibre that is cut.
+pub(crate) type RunSource = Outside<FileSource>;
 
-/// A node among the fibres: its index, its plan, and its folder with the slash behind it.
+/// What is written beside: the file of a line, or the near end of a fibre that is cut.
+pub(crate) type RunSink = OutsideSink<FileSink>;
+
+/// The places of a node: files, and the ends of fibres.
+pub(crate) type NodePlaces = Rack<NetIn<RunSource>, NetOut<FileSink>>;
+
+/// A node among the fibres, all of them and those that are not cut: its index, its plan, and its folder with the slash
+/// behind it.
 #[derive(Clone, Copy)]
 pub(crate) struct Node<'a> {
     pub(crate) index: usize,
     pub(crate) plan: &'a Plan,
     pub(crate) folder: &'a str,
     pub(crate) fibres: &'a [FibreEnds],
+    pub(crate) whole: &'a [FibreEnds],
 }
 
 // The path of a file in the folder of a node.
@@ -79,7 +89,7 @@ fn input(
     folder: &str,
     file: InputFile,
     block: ReadBlock,
-) -> Result<InPlaceOf<NetIn<FileSource>>, Memory> {
+) -> Result<InPlaceOf<NetIn<RunSource>>, Memory> {
     let name = file.name(rt.alloc())?;
     let path = path_of(rt, folder, name.as_str())?;
     let mut source = match opened_input(fs::open(rt, path.as_str())) {
@@ -88,7 +98,7 @@ fn input(
         Opened::Absent => return Ok(InPlaceOf::Empty),
     };
     source.read_by_blocks(rt.alloc(), block);
-    Ok(InPlaceOf::Live(NetIn::Edge(source), 0))
+    Ok(InPlaceOf::Live(NetIn::Edge(Outside::Port(source)), 0))
 }
 
 /// Makes the outputs that the plan uses, but for lines at which fibres begin.
@@ -99,9 +109,8 @@ pub(crate) fn make_outputs(
     bays: &mut NodePlaces,
 ) -> Result<(), Memory> {
     for n in 0..LINES as u8 {
-        if uses(node.plan, PortName::LineOut(n)) && !begins_at(node.fibres, node.index, n) {
-            let sink = output(rt, node.folder, OutputFile::Line(n), marks)?;
-            bays.set_line_out(n, OutPlaceOf::Live(NetOut::Edge(sink), 0));
+        if uses(node.plan, PortName::LineOut(n)) {
+            make_line(rt, node, n, marks, bays)?;
         }
     }
     for n in 0..CLIENTS as u8 {
@@ -109,6 +118,26 @@ pub(crate) fn make_outputs(
             let sink = output(rt, node.folder, OutputFile::Text(n), marks)?;
             bays.set_client_out(n, OutPlaceOf::Live(NetOut::Edge(sink), 0));
         }
+    }
+    Ok(())
+}
+
+// A file, where no fibre begins. Where one does it is no place yet, but where all that do are cut: then it is their near
+// end.
+fn make_line(
+    rt: &HostRuntime,
+    node: Node<'_>,
+    n: u8,
+    marks: &mut Marks,
+    bays: &mut NodePlaces,
+) -> Result<(), Memory>
+    requires few { n < 4 }
+{
+    if !begins_at(node.fibres, node.index, n) {
+        let sink = output(rt, node.folder, OutputFile::Line(n), marks)?;
+        bays.set_line_out(n, OutPlaceOf::Live(NetOut::Edge(sink), 0));
+    } else if !begins_at(node.whole, node.index, n) {
+        bays.set_line_out(n, near_end_at(rt.alloc(), node.plan, n)?);
     }
     Ok(())
 }

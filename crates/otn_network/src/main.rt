@@ -6,7 +6,7 @@
 //! - `reading`: the file of the network, and the plans of its nodes.
 //! - `run_words`, `running`: the words of `run`, and the run of a network.
 //! - `sites`: the nodes of a network over their places, and their run.
-//! - `files`, `marks`: the files of a node, and which files are read or written.
+//! - `files`, `marks`: the files of a node, and which files are read or written; `cuts`: the ends of fibres that are cut.
 //! - `summary`: what is told beside the reports of the nodes.
 //! - `answer`: how the program ends, and what it complains of.
 #![tactic(auto)]
@@ -17,13 +17,14 @@ use network_view::{NamedNetwork, Told, write_network};
 use otn_base::Memory;
 use otn_ports::StdoutSink;
 use program_words::{given_words, take_standard};
-use reading::{Joined, Read, fibres_of, names_of, read_all};
+use reading::{Joined, Read, names_of, read_all};
 use run_words::{RunAsked, behind_run, run_asked};
 use running::run_file;
 use std::process::ExitCode;
 use words::{Asked, asked_of};
 
 mod answer;
+mod cuts;
 mod files;
 mod marks;
 mod reading;
@@ -47,7 +48,8 @@ the ways of a network of nodes, in words and numbers (docs/NETWORKS.md)
                          runs all its nodes turn by turn, with the fibres in memory: reads each node's client files,
                          and the lines that no fibre leads to, as otn run does in its folder; writes the clients there,
                          and the lines at which no fibre begins; and reports each node by its name. LIST is all, or
-                         numbers of fibres, as 1,4: what goes over these is written too, as line-N.out where they begin
+                         numbers of fibres, as 1,4: what goes over these is written too, as line-N.out where they begin.
+                         A fibre that FILE has a cut of is dark in its turns: zeros come at its far end
 
 The first two end with 0 where all meets, with 1 where some does not. run ends with 0 done, 1 unfinished, 6 cut, as
 otn run does for the nodes together, and with 8 where two nodes have one folder. All end with 2 for other words, 3 where
@@ -99,8 +101,8 @@ fn tell(rt: &HostRuntime, path: &str) -> Result<Answer, Memory> {
 
 fn tell_joined(rt: &HostRuntime, joined: &Joined) -> Result<Answer, Memory> {
     let names = names_of(rt.alloc(), joined.file.nodes.as_slice())?;
-    let fibres = fibres_of(rt.alloc(), joined.file.fibres.as_slice())?;
-    let named = NamedNetwork::new(joined.plans.as_slice(), fibres.as_slice(), names.as_slice());
+    let fibres = joined.file.fibres.as_slice();
+    let named = NamedNetwork::new(joined.plans.as_slice(), fibres, names.as_slice());
     let mut report = StdoutSink::of(rt.stdout());
     Ok(answer_to(write_network(rt.alloc(), &named, &mut report)?))
 }
@@ -115,8 +117,8 @@ fn tell_json(rt: &HostRuntime, path: &str) -> Result<Answer, Memory> {
 
 fn tell_joined_json(rt: &HostRuntime, joined: &Joined) -> Result<Answer, Memory> {
     let names = names_of(rt.alloc(), joined.file.nodes.as_slice())?;
-    let fibres = fibres_of(rt.alloc(), joined.file.fibres.as_slice())?;
-    let named = NamedNetwork::new(joined.plans.as_slice(), fibres.as_slice(), names.as_slice());
+    let fibres = joined.file.fibres.as_slice();
+    let named = NamedNetwork::new(joined.plans.as_slice(), fibres, names.as_slice());
     let mut report = StdoutSink::of(rt.stdout());
     Ok(answer_to(write_network_json(rt.alloc(), &named, &mut report)?))
 }

@@ -7,8 +7,7 @@ ghost use Rattle.plan_file.specs.Answer.{fault_in};
 
 use crate::answer::Answer;
 use check_command::{Planned, read_plan};
-use network_file::{FibreEnds, NetworkFile, NoNetwork, NodeEntry, fault};
-use network_view::FibreEnds as ToldFibre;
+use network_file::{NetworkFile, NoNetwork, NodeEntry, fault};
 use otn_base::Memory;
 use otn_base::limits::MOST_PLAN_BYTES;
 use otn_ports::FileSource;
@@ -118,13 +117,4 @@ pub(crate) fn names_of(alloc: Global, nodes: &[NodeEntry]) -> Result<Vec<Name>, 
         names.push(Name::of(String::from_str(alloc, node.name.as_str())?))?;
     }
     Ok(names)
-}
-
-/// These fibres.
-pub(crate) fn fibres_of(alloc: Global, fibres: &[FibreEnds]) -> Result<Vec<ToldFibre>, Memory> {
-    let mut told = Vec::new(alloc);
-    for f in fibres {
-        told.push(ToldFibre::new(f.from_node(), f.from_line(), f.to_node(), f.to_line()))?;
-    }
-    Ok(told)
 }

@@ -3,7 +3,10 @@ ghost use Rattle.std.specs.Prelude.{◌≡◌, ◌<◌, IfOk, None, length};
 ghost use Rattle.plan_file.specs.Answer.{fault_in};
 
 use crate::answer::Answer;
-use crate::files::{Node, NodePlaces, make_outputs, mark_inputs, open_inputs, output};
+use crate::cuts::put_cut_ends;
+use crate::files::{
+    Node, NodePlaces, RunSink, RunSource, make_outputs, mark_inputs, open_inputs, output,
+};
 use crate::marks::{Marks, one_folder};
 use crate::reading::{Joined, Read, base_of, read_all};
 use crate::run_words::fibres_named;
@@ -11,17 +14,17 @@ use crate::sites::{Ran, run_sites};
 use crate::summary::{Ending, last_lines, node_line, worse};
 use arrayvec::ArrayString;
 use device_model::{Outcome, RunNumbers};
-use network_carry::{Carried, Recording};
+use network_carry::{Carried, OutsideSink, Recording};
 use network_file::FibreEnds;
 use network_run::Site;
 use otn_base::Memory;
-use otn_ports::{FileSink, FileSource, StdoutSink};
+use otn_ports::{FileSink, StdoutSink};
 use plan_file::Plan;
 use port_base::{OutPlaceOf, Rack, Written, is_dead_out, write_whole};
 use program_words::OutputFile;
 use run_report::put_report;
 
-type FileRecordings = Vec<Recording<FileSink>>;
+type Recordings = Vec<Recording<RunSink>>;
 
 /// Runs the network of this file, and writes the lines of the fibres that the list names, if any.
 pub(crate) fn run_file(rt: &HostRuntime, path: &str, list: Option<&str>) -> Result<Answer, Memory> {
@@ -46,10 +49,18 @@ fn run_joined(
     if let Some((one, other)) = one_folder(rt, folders.as_slice())? {
         return Ok(Answer::OneFolder(one, other));
     }
+    let whole = joined.file.whole_fibres(rt.alloc())?;
     let mut marks = marks_of(rt, path, folders.as_slice())?;
-    let places = open_all(rt, folders.as_slice(), joined, &mut marks)?;
+    let mut places = open_all(rt, folders.as_slice(), joined, whole.as_slice(), &mut marks)?;
     let mut recordings = record(rt, folders.as_slice(), fibres, named.as_slice(), &mut marks)?;
-    let ran = run_sites(rt.alloc(), joined, places, &mut recordings)?;
+    put_cut_ends(rt.alloc(), joined, &mut places, &mut recordings)?;
+    let ran = run_sites(
+        rt.alloc(),
+        joined,
+        whole.as_slice(),
+        places,
+        &mut recordings,
+    )?;
     tell(rt, joined, &ran, recordings.as_slice())
 }
 
@@ -81,6 +92,7 @@ fn open_all(
     rt: &HostRuntime,
     folders: &[String],
     joined: &Joined,
+    whole: &[FibreEnds],
     marks: &mut Marks,
 ) -> Result<Vec<NodePlaces>, Memory>
     requires each { length folders.now ≡ length joined.now.plans.items }
@@ -93,6 +105,7 @@ fn open_all(
             plan: joined.plan(index),
             folder: folders[index].as_str(),
             fibres: joined.file.fibres.as_slice(),
+            whole,
         };
         places.push(open_node(rt, node, marks)?)?;
     }
@@ -113,7 +126,7 @@ fn record(
     fibres: &[FibreEnds],
     named: &[bool],
     marks: &mut Marks,
-) -> Result<FileRecordings, Memory> {
+) -> Result<Recordings, Memory> {
     let mut recordings = Vec::new(rt.alloc());
     for i in 0..fibres.len() {
         if is_first_named(fibres, named, i) {
@@ -121,7 +134,8 @@ fn record(
             let line = fibres[i].from_line();
             if let Some(folder) = folders.get(node) {
                 let sink = output(rt, folder.as_str(), OutputFile::Line(line), marks)?;
-                recordings.push(Recording::new(node, line, OutPlaceOf::Live(sink, 0)))?;
+                let place = OutPlaceOf::Live(OutsideSink::Port(sink), 0);
+                recordings.push(Recording::new(node, line, place))?;
             }
         }
     }
@@ -153,8 +167,8 @@ fn is_one_line(one: &FibreEnds, other: &FibreEnds) -> bool {
 fn tell(
     rt: &HostRuntime,
     joined: &Joined,
-    ran: &Ran<FileSource, FileSink>,
-    recordings: &[Recording<FileSink>],
+    ran: &Ran<RunSource, FileSink>,
+    recordings: &[Recording<RunSink>],
 ) -> Result<Answer, Memory>
     requires sites { length ran.now.sites.items ≡ length joined.now.plans.items }
     requires numbers { length ran.now.carried.numbers.items ≡ length joined.now.plans.items }
@@ -184,7 +198,7 @@ fn tell_node(
     name: &str,
     plan: &Plan,
     numbers: &RunNumbers,
-    site: &Site<FileSource, FileSink>,
+    site: &Site<RunSource, FileSink>,
     report: &mut StdoutSink,
 ) -> Result<Written, Memory>
     requires accepted { fault_in plan.now ≡ None }
@@ -199,7 +213,7 @@ fn tell_node(
 }
 
 // Cut where a file of a line failed.
-fn outcome_of(recordings: &[Recording<FileSink>]) -> Outcome {
+fn outcome_of(recordings: &[Recording<RunSink>]) -> Outcome {
     for i in 0..recordings.len() {
         if is_dead_out(recordings[i].place()) {
             return Outcome::Cut;
@@ -211,7 +225,7 @@ fn outcome_of(recordings: &[Recording<FileSink>]) -> Outcome {
 fn ending_of(joined: &Joined, carried: &Carried, outcome: Outcome) -> Ending {
     Ending {
         nodes: joined.file.nodes.as_slice().len(),
-        fibres: carried.fillings.len(),
+        fibres: joined.file.fibres.as_slice().len(),
         whole: carried.fillings.iter().filter(|f| f.whole).count(),
         outcome,
     }

@@ -1,4 +1,4 @@
-use Rattle.std.proofs.Common.{◌≡◌, ◌∙◌, ◌+◌, ◌++◌, ◌∷◌, [], ℕ, List, Some, length, sym, subst, arith, rules}
+use Rattle.std.proofs.Common.{◌≡◌, ◌∙◌, ◌+◌, ◌++◌, ◌∷◌, [], ℕ, List, Some, length, refl, sym, subst, arith, rules}
 use Rattle.std.specs.Prelude.{slice_get}
 use Rattle.std.proofs.lemmas.Iterator.Adapters.{YieldsList-from_vec}
 use Rattle.std.proofs.lemmas.Iterator.Consumers.{YieldsList-turn, YieldsList-end}
@@ -26,8 +26,8 @@ pub loop-bays-init : goal.loop-bays-init
 loop-bays-init g c =
     let none : c.new-sites.result.items ≡ [] = search rules in
     record {
-      opened = subst (OpenedBelow g.P.Source g.K.Sink c.args.joined.now.file.fibres c.args.joined.now.plans.items 0) (sym none)
-          (opened_none g.P.Source g.K.Sink c.args.joined.now.file.fibres c.args.joined.now.plans.items);
+      opened = subst (OpenedBelow g.P.Source g.K.Sink c.args.whole.now c.args.joined.now.plans.items 0) (sym none)
+          (opened_none g.P.Source g.K.Sink c.args.whole.now c.args.joined.now.plans.items);
     }
 
 pub plan-requires : goal.plan-requires
@@ -40,10 +40,10 @@ plan-requires g c =
 
 pub loop-bays-preserved : goal.loop-bays-preserved
 loop-bays-preserved g c = record {
-  opened = subst (λ n. OpenedBelow g.P.Source g.K.Sink c.args.joined.now.file.fibres c.args.joined.now.plans.items n c.push.new.self.items)
+  opened = subst (λ n. OpenedBelow g.P.Source g.K.Sink c.args.whole.now c.args.joined.now.plans.items n c.push.new.self.items)
       (sym (length-append c.loop-bays.yielded (c.in-Some.bays ∷ [])))
-      (one_more g.P.Source g.K.Sink c.args.joined.now.file.fibres c.as_slice-fibres.result.now c.args.joined.now.plans.items (length c.loop-bays.yielded)
-      c.len-index.result c.loop-bays.sites.items c.push.new.self.items c.plan.result.now c.in_ok-site.site c.as_slice-fibres.ensures (search rules)
+      (one_more g.P.Source g.K.Sink c.args.whole.now c.args.whole.now c.args.joined.now.plans.items (length c.loop-bays.yielded)
+      c.len-index.result c.loop-bays.sites.items c.push.new.self.items c.plan.result.now c.in_ok-site.site refl (search rules)
       c.plan.ensures.at c.in_ok-site.ensures.opens c.in_ok-push.ensures.items c.loop-bays.invariant.opened);
 }
 
@@ -51,6 +51,6 @@ pub returns : goal.returns
 returns g c =
     let end = YieldsList-end (YieldsList-from_vec {s = c.into_iter-bays-iterator.result} c.args.places.items (search rules) (search rules))
     c.loop-bays.yielded c.loop-bays.bays-iterator c.loop-bays.yielded_by c.next.result c.next.new.self c.in-None.is c.next.ensures.steps in
-    opened_all g.P.Source g.K.Sink c.args.joined.now.file.fibres c.args.joined.now.plans.items c.loop-bays.sites.items
-    (subst (λ n. OpenedBelow g.P.Source g.K.Sink c.args.joined.now.file.fibres c.args.joined.now.plans.items n c.loop-bays.sites.items)
+    opened_all g.P.Source g.K.Sink c.args.whole.now c.args.joined.now.plans.items c.loop-bays.sites.items
+    (subst (λ n. OpenedBelow g.P.Source g.K.Sink c.args.whole.now c.args.joined.now.plans.items n c.loop-bays.sites.items)
     (end.1 ∙ c.requires.each) c.loop-bays.invariant.opened)
