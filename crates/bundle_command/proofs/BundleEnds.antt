@@ -23,7 +23,7 @@ use Rattle.tributary_line.specs.FeedTurn.{FeedStands, FeedView}
 use Rattle.tributary_line.specs.TributaryFile.{AreTributaryFrames}
 use Rattle.bundle_command.specs.ChannelInput.{channel_text, ends_whole, texts_of}
 use Rattle.bundle_command.specs.BundleStream.{IsFinished, begun_of, channel_line, channel_stream, channel_turns, first_slot, lines_told, parts_of, payload_sent, payload_whole, whole_of}
-use Rattle.bundle_command.specs.BundleLeft.{BundleRan, IsCut, LeftOf, MayBeInput, OutputDue, Tells, place_of}
+use Rattle.bundle_command.specs.BundleLeft.{BundleRan, IsCut, LeftOf, MayBeInput, Tells, place_of}
 use Rattle.bundle_command.specs.Steps.Channels.{ChannelAt, ChannelStands, HasChannel, MayShow, MayShowAll, StandsSo, WeavingHas, woven_bytes}
 use Rattle.bundle_command.specs.Steps.Settled.{AllEnded, DeadClients, IsEnded, IsSettled, line_of, lines_of}
 use Rattle.bundle_command.specs.declared.channel.Channel.{Channel}

@@ -27,7 +27,7 @@ use Rattle.client_list.specs.ClientLists.{IsClientList}
 use Rattle.client_list.proofs.ClientLists.{few_channels}
 use Rattle.bundle_command.specs.ChannelInput.{channel_text, ends_whole, texts_of}
 use Rattle.bundle_command.specs.BundleStream.{IsFinished, begun_of, channel_stream, channel_turns, first_slot, lines_told, parts_of, payload_sent, payload_whole, whole_of, woven_begun, woven_in}
-use Rattle.bundle_command.specs.BundleLeft.{BundleRan, IsCut, LeftOf, MayBeInput, OnlyBundled, OutputDue, Tells, place_of}
+use Rattle.bundle_command.specs.BundleLeft.{BundleRan, IsCut, LeftOf, MayBeInput, OnlyBundled, Tells, place_of}
 use Rattle.bundle_command.specs.Steps.Channels.{ChannelAt, ChannelStands, HasChannel, IsUnasked, MayShow, MayShowAll, PacketsEnd, StandsSo, WeavingHas, woven_bytes}
 use Rattle.bundle_command.specs.Steps.Settled.{AllEnded, DeadClients, IsEnded, IsSettled, line_of, lines_of}
 use Rattle.bundle_command.specs.declared.channel.Channel.{Channel}

@@ -24,7 +24,7 @@ use Rattle.tributary_line.specs.Settling.{ended_by}
 use Rattle.tributary_line.proofs.Endings.{EndsAs, ends_by}
 use Rattle.bundle_command.specs.ChannelInput.{texts_of}
 use Rattle.bundle_command.specs.BundleStream.{IsAskedIn, IsAskedWithin, IsFinished, begun_of, channel_stream, channel_turns, first_slot, lines_told, parts_of, payload_sent, payload_whole}
-use Rattle.bundle_command.specs.BundleLeft.{BundleRan, IsCut, LeftOf, MayBeInput, OutputDue, Tells, WasAsked, place_of}
+use Rattle.bundle_command.specs.BundleLeft.{BundleRan, IsCut, LeftOf, MayBeInput, Tells, WasAsked, place_of}
 use Rattle.bundle_command.specs.Steps.Channels.{ChannelAt, ChannelStands, HasChannel, IsBadLine, MayShowAll, StandsSo, woven_bytes}
 use Rattle.bundle_command.specs.Steps.Settled.{IsEnded, IsSettled, lines_of}
 use Rattle.bundle_command.specs.declared.channel.Channel.{Channel}

@@ -1,17 +1,15 @@
 -- Believed: what the command leaves, from its places and the report as they were first to how they are last.
-use Rattle.std.specs.Prelude.{◌≡◌, ◌≢◌, ◌⊎◌, ◌↔◌, ◌<◌, ◌≤◌, ◌*◌, ◌+◌, ℕ, Bool, true, false, List, [], ◌++◌, All, length, take, slice_index}
-use Rattle.std.specs.List.{Contains, concat}
-use Rattle.otn_base.specs.declared.limits.TheConstants.{OTU2_SLOTS}
+use Rattle.std.specs.Prelude.{◌≡◌, ◌≢◌, ◌⊎◌, ◌↔◌, ◌<◌, ◌≤◌, ◌+◌, ℕ, Bool, true, false, List, [], ◌++◌, All, length, take, slice_index}
+use Rattle.std.specs.List.{Contains}
 use Rattle.port_base.specs.PortViews.{SinkView, SinkGot}
-use Rattle.port_base.specs.Sent.{IsSent}
-use Rattle.port_base.specs.Views.{Dead, InView, OutView, BaysView, line_in_at, line_out_at, client_in_at}
+use Rattle.port_base.specs.Views.{Dead, InView, BaysView, line_in_at, line_out_at, client_in_at}
 use Rattle.packet_text.specs.LinesStand.{ReadAsNeeded}
 use Rattle.packet_text.specs.PacketText.{packets_of, shows_bad}
 use Rattle.packet_text.specs.TextLines.{full_lines}
 use Rattle.odu_client.specs.ClientInput.{ClientInput, input_given}
 use Rattle.device_model.specs.Inputs.{has_died}
 use Rattle.device_model.specs.LineAsked.{MayHave, InputLeft}
-use Rattle.tributary_line.specs.TributaryFile.{IsTributaryFile}
+use Rattle.tributary_line.specs.TurnsLeft.{OutputDue}
 use Rattle.bundle_command.specs.ChannelInput.{texts_of}
 use Rattle.bundle_command.specs.BundleStream.{IsAskedWithin, IsFinished, begun_of, channel_turns, first_slot, lines_told}
 use Rattle.port_base.specs.declared.ended.Ended.{Ended}
@@ -44,12 +42,6 @@ pub record WasAsked (Asked : Type 0) (packets : ℕ) (more : Bool) (first last :
   pub behind : Asked → TellsBehind packets more read
   pub untouched : (Asked → ⊥) → (last ≡ first) × (read ≡ [])
 
--- all frames of these turns were due to the line output
-pub record OutputDue (own : List (List ℕ)) (count : ℕ) (first last : OutView) : Type 0 where
-  pub frames : List (List ℕ)
-  pub file : IsTributaryFile 0 first_slot own (OTU2_SLOTS * count) frames
-  pub sent : IsSent first (concat frames) last
-
 -- the report got this text; where it failed a part of it, from the front, and not all
 abbrev pub Tells : Ended → SinkView → List ℕ → SinkView → Type 0
 Tells ReportFault first text last = (written : ℕ) × (written < length text) × SinkGot first (take written text) last
@@ -59,8 +51,8 @@ Tells ended first text last = SinkGot first text last
 -- what is left where the clients' inputs are these
 pub record LeftOf (clients : List ℕ) (turns : ℕ) (first last : BaysView) (report told : SinkView) (ended : Ended)
     (read : ℕ → List ℕ) (more : ℕ → Bool) (inputs : ℕ → ClientInput) : Type 0 where
-  pub output : OutputDue (channel_turns clients (texts_of (length clients) inputs) turns) turns (line_out_at first 0)
-      (line_out_at last 0)
+  pub output : OutputDue first_slot (channel_turns clients (texts_of (length clients) inputs) turns) turns
+      (line_out_at first 0) (line_out_at last 0)
   pub tells : Tells ended report (lines_told clients (texts_of (length clients) inputs) turns
       (λ c. (place_of clients last c).state) (length clients)) told
   -- of each text no block was read that was not needed for one packet more than are begun

@@ -13,7 +13,7 @@ use Rattle.gfp_linear.specs.Weave.{AreCarried, ChannelText, no_text, packets_giv
 use Rattle.odu_client.specs.ClientInput.{input_given}
 use Rattle.device_model.specs.LineAsked.{MayHave}
 use Rattle.tributary_line.specs.TributaryFile.{IsTributaryFile}
-use Rattle.bundle_command.specs.BundleLeft.{OutputDue}
+use Rattle.tributary_line.specs.TurnsLeft.{OutputDue}
 use Rattle.bundle_command.specs.ChannelInput.{channel_text}
 use Rattle.bundle_command.specs.BundleStream.{channel_turns, first_slot, payload_whole, woven_in}
 use Rattle.unbundle_command.specs.Unbundled.{arrived_before}
@@ -45,7 +45,7 @@ abbrev pub ComesOut : Type 0
 ComesOut = (cids : List ℕ) (texts : List ChannelText) (turns t : ℕ) (was is : OutView) (first last : BaysView)
     (report told : SinkView) (ended : Ended)
     → IsCidList cids → length texts ≡ length cids → All AreCarried texts
-    → (due : OutputDue (channel_turns cids texts turns) turns was is)
+    → (due : OutputDue first_slot (channel_turns cids texts turns) turns was is)
     → (ran : UnbundleRan t first last report told ended) → MayHave ran.more ran.read (concat due.frames) → 1 ≤ turns
     → t ≤ turns + 1
     → (c : ℕ) → c < length cids → slice_index cids c < 16

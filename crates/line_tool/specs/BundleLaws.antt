@@ -9,8 +9,9 @@ use Rattle.packet_text.specs.LinesStand.{ReadAsNeeded}
 use Rattle.odu_client.specs.ClientInput.{ClientInput, input_given}
 use Rattle.device_model.specs.Inputs.{has_died}
 use Rattle.bundle_command.specs.ChannelInput.{texts_of}
-use Rattle.bundle_command.specs.BundleStream.{IsAskedWithin, IsFinished, begun_of, channel_turns, lines_told}
-use Rattle.bundle_command.specs.BundleLeft.{IsCut, OnlyBundled, OutputDue, Tells, WasAsked, place_of}
+use Rattle.bundle_command.specs.BundleStream.{IsAskedWithin, IsFinished, begun_of, channel_turns, first_slot, lines_told}
+use Rattle.tributary_line.specs.TurnsLeft.{OutputDue}
+use Rattle.bundle_command.specs.BundleLeft.{IsCut, OnlyBundled, Tells, WasAsked, place_of}
 use Rattle.command_base.specs.AnswerWords.{IsWell}
 use Rattle.line_tool.specs.Answers.{Bundles, PlacesAnswers}
 use Rattle.command_base.specs.Device.{Device}
@@ -39,8 +40,8 @@ pub record TookOf (Asked : Type 0) (packets : ℕ) (available : List ℕ) (first
 -- What is left where the clients had these bytes to give.
 pub record BundledOfGiven (clients : List ℕ) (turns : ℕ) (old new : Device) (ended : Ended) (available : ℕ → List ℕ)
     (inputs : ℕ → ClientInput) : Type 0 where
-  pub output : OutputDue (channel_turns clients (texts_of (length clients) inputs) turns) turns (line_out_at old.bays 0)
-      (line_out_at new.bays 0)
+  pub output : OutputDue first_slot (channel_turns clients (texts_of (length clients) inputs) turns) turns
+      (line_out_at old.bays 0) (line_out_at new.bays 0)
   pub report : Tells ended old.report (lines_told clients (texts_of (length clients) inputs) turns
       (λ c. (place_of clients new.bays c).state) (length clients)) new.report
   pub took : (c : ℕ) → c < length clients

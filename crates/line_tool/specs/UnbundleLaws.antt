@@ -9,7 +9,8 @@ use Rattle.port_base.specs.declared.ended.Ended.{Ended}
 use Rattle.port_base.specs.declared.ended.Ended.TheVariants as ending
 use Rattle.unbundle_command.specs.Unbundled.{arrived_before, report_text}
 use Rattle.unbundle_command.specs.Unbundling.{OnlyUnbundled}
-use Rattle.unbundle_command.specs.UnbundleLeft.{HasMore, IsCut, OutputsSent, written_by}
+use Rattle.tributary_line.specs.TurnsLeft.{HasMore}
+use Rattle.unbundle_command.specs.UnbundleLeft.{IsCut, OutputsSent, written_by}
 use Rattle.command_base.specs.AnswerWords.{IsWell}
 use Rattle.line_tool.specs.Answers.{PlacesAnswers, Unbundles}
 use Rattle.command_base.specs.Device.{Device}

@@ -4,5 +4,6 @@ pub mod FeedTurn
 pub mod Laws
 pub mod Settling
 pub mod TurnsDone
+pub mod TurnsLeft
 pub mod Walking
 pub mod Steps

@@ -101,8 +101,8 @@ pub fn after_turn(written: Written, ended: bool) -> After
 }
 
 /// How a walk ends after its last turn: Cut where the line's place is dead, else Unfinished where a byte is left, else
-/// Done. Where the end of the line was not seen, its place is asked for one byte more; else it has so many after its last
-/// whole frame.
+/// Done. Where the end of the line was not seen, its place is asked for one byte more; else it has so many after its
+/// last whole frame.
 pub fn end_walk<I: Source>(end_seen: bool, rest: u64, place: &mut InPlaceOf<I>) -> Ended
     ensures ends { WalkEnds end_seen rest (in_view I.Source place.old) (in_view I.Source place.new) result }
     ensures written { (result ≢ Ended.ReportFault) × (result ≢ Ended.Memory) }

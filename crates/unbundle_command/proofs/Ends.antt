@@ -20,7 +20,8 @@ use Rattle.unbundle_command.specs.Unbundled.{emitted_before, arrived_before, rep
 use Rattle.unbundle_command.specs.Receiving.{ChannelView, OutputsView}
 use Rattle.unbundle_command.specs.Steps.Receiving.{NoneHeld, OutputsStand, OnlyClientsOut}
 use Rattle.unbundle_command.specs.Steps.Unbundling.{TurnsGone, IsReady, IsDeadAt, DeadChannel, HasDead}
-use Rattle.unbundle_command.specs.UnbundleLeft.{HasMore, IsCut, OutputsSent, written_by, UnbundleRan}
+use Rattle.tributary_line.specs.TurnsLeft.{HasMore}
+use Rattle.unbundle_command.specs.UnbundleLeft.{IsCut, OutputsSent, written_by, UnbundleRan}
 use Rattle.port_base.specs.declared.ended.Ended.{Ended}
 use Rattle.port_base.specs.declared.ended.Ended.TheVariants.{ReportFault}
 use Rattle.unbundle_command.specs.declared.unbundling.Unbundling.{Unbundling}

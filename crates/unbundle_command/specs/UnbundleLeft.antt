@@ -1,5 +1,5 @@
 -- Believed: what the command leaves, from its places and the report as they were first to how they are last.
-use Rattle.std.specs.Prelude.{◌≡◌, ◌≢◌, ◌⊎◌, ◌↔◌, ◌<◌, ℕ, suc, min, Bool, List, [], length}
+use Rattle.std.specs.Prelude.{◌≡◌, ◌≢◌, ◌⊎◌, ◌↔◌, ◌<◌, ℕ, Bool, List, []}
 use Rattle.otn_base.specs.declared.limits.TheConstants.{CLIENTS}
 use Rattle.port_base.specs.PortViews.{SinkView, SinkWrites}
 use Rattle.port_base.specs.Sent.{IsSent}
@@ -7,18 +7,13 @@ use Rattle.port_base.specs.Views.{Dead, BaysView, line_in_at, client_out_at}
 use Rattle.port_base.specs.declared.drain.Written.{Written}
 use Rattle.port_base.specs.declared.drain.Written.TheVariants as written
 use Rattle.packet_text.specs.PacketText.{hex_text}
-use Rattle.line_side.specs.LineForm.{plain_otu2}
 use Rattle.gfp_linear.specs.ChannelArrivals.{ChannelArrival}
 use Rattle.gfp_linear.specs.Laws.{packets_on}
-use Rattle.device_model.specs.Moments.{line_read}
 use Rattle.device_model.specs.LineAsked.{MayHave, InputLeft}
+use Rattle.tributary_line.specs.TurnsLeft.{HasMore, TookOf}
 use Rattle.unbundle_command.specs.Unbundled.{arrived_before, report_text}
 use Rattle.port_base.specs.declared.ended.Ended.{Ended}
 use Rattle.port_base.specs.declared.ended.Ended.TheVariants.{Done, Unfinished, Cut, ReportFault, Memory}
-
--- the line has more than so many turns want
-abbrev pub HasMore : (turns : ℕ) → (available : List ℕ) → Type 0
-HasMore turns available = line_read plain_otu2 available turns 0 < length available
 
 -- a client output is dead, and a packet of its channel arrived
 pub record IsOutputDead (arrived : List ChannelArrival) (last : BaysView) : Type 0 where
@@ -52,7 +47,7 @@ pub record UnbundleOf (turns : ℕ) (available read : List ℕ) (arrived : List 
     (was is : SinkView) (ended : Ended) : Type 0 where
   pub outputs : OutputsSent arrived first last
   pub report : SinkWrites (written_by ended) was (report_text arrived) is
-  pub took : length read ≡ min (length available) (suc (line_read plain_otu2 available turns 0))
+  pub took : TookOf turns available read
   pub cut : ended ≢ ReportFault → (ended ≡ Cut) ↔ IsCut arrived last
   pub unfinished : ended ≢ ReportFault → (ended ≡ Unfinished) ↔ ((IsCut arrived last → ⊥) × HasMore turns available)
 
