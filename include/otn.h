@@ -16,9 +16,8 @@
  * answer OTN_DONE or OTN_UNFINISHED; else what both have of it does.
  *
  * This is proved of the library's code as it was before compilation: the law `headline_of_bytes` of crates/otn_c says
- * it of any two calls of `otn_run` (docs/PROMISES.md, "Isolation of two calls of the library"). NOT PROVED, and tested
- * only: the bytes that are handed out of a client output whose connection says `retire = true` in the plan. Nor does
- * any proof speak of the program that calls: it has to keep the rules below.
+ * it of any two calls of `otn_run` (docs/PROMISES.md, "Isolation of two calls of the library"). No proof speaks of the
+ * program that calls: it has to keep the rules below.
  *
  * HOW IT IS CALLED. It takes bytes with their length. It calls the system for nothing but memory: malloc,
  * posix_memalign, realloc, free, and on Linux advice on the pages of large blocks. It gives all of it back. What comes

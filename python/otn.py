@@ -42,8 +42,7 @@ in the result.
 
 **What is promised.** What a connection sends depends on its own entry of the plan, its own bytes, and the MFAS bytes of
 the line that brings them, and on nothing else. That is proved of the library, and of the very bytes that are handed in.
-It is tested and not proved of what is handed out of a client output that its plan retires (`retire = true`). No proof
-speaks of this file, which is tested too.
+No proof speaks of this file, which is tested.
 
 **To test a line** there are modules beside this one: `otn.lines` has its frames and places by name, `otn.damage`
 damages it by words, `otn.view` and `otn.events` tell what it carries and what happened on it, `otn.test_packets` and

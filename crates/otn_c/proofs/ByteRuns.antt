@@ -9,7 +9,7 @@ use Rattle.otn_base.specs.declared.kind.PortName.TheVariants as port
 use Rattle.port_base.specs.Bytes.{HasFailed}
 use Rattle.port_base.specs.Given.{HadToGive, IsWritten, Lives, written_between}
 use Rattle.port_base.specs.PortViews.{SourceView, SinkView}
-use Rattle.port_base.specs.Retiring.{retired_in_as}
+use Rattle.port_base.specs.Retiring.{retired_in_as, retired_out_as}
 use Rattle.port_base.specs.Views.{State, Empty, Live, Dead, InView, OutView, BaysView, line_in_at, line_out_at, client_in_at, client_out_at}
 use Rattle.line_side.specs.LineForm.{through_mask}
 use Rattle.odu_client.specs.ClientInput.{input_given}
@@ -194,17 +194,28 @@ client_place bays n =
     let number : 4 + n - 4 ≡ n = omega arith in
     ap (λ t. if t then line_out_at bays (4 + n) else client_out_at bays (4 + n - 4)) back ∙ ap (client_out_at bays) number
 
-gone_by : (state : State) (got : Option (List ℕ)) (bytes : List ℕ) → state ≢ Empty → got ≡ Some bytes → written_between Live state (Some []) got bytes
-gone_by Empty got bytes some told = absurd (some refl)
-gone_by Live got bytes some told = record { before = []; had = refl; has = told }
-gone_by Dead got bytes some told = record { before = []; had = refl; has = told }
+gone_by : (state : State) (got : Option (List ℕ)) (bytes : List ℕ) → got ≡ Some bytes
+    → written_between Live state true (Some []) got bytes
+gone_by Empty got bytes told = record { before = []; had = refl; has = told }
+gone_by Live got bytes told = record { before = []; had = refl; has = told }
+gone_by Dead got bytes told = record { before = []; had = refl; has = told }
 
-got_all : (first last : OutView) (bytes : List ℕ) → first ≡ waiting → last.state ≢ Empty → IsKept last bytes → IsWritten first last bytes
-got_all first last bytes is some kept = subst (λ v. IsWritten v last bytes) (sym is) (gone_by last.state last.got bytes some (kept some))
+got_all : (first last : OutView) (bytes : List ℕ) → first ≡ waiting → last.keeps ≡ true → IsKept last bytes
+    → IsWritten first last bytes
+got_all first last bytes is keeps kept =
+    subst (λ v. IsWritten v last bytes) (sym is)
+    (subst (λ k. written_between Live last.state k (Some []) last.got bytes) (sym keeps)
+    (gone_by last.state last.got bytes kept))
 
-stays_out : (first last : OutView) → first.state ≡ Live → Lives first.state last.state first.faults last.faults → last.state ≢ Empty
-stays_out first last live (inl same) = λ empty. absurd (cc (same.0, live, empty))
-stays_out first last live (inr died) = λ empty. absurd (cc (died.1, empty))
+-- a place whose port keeps what it got keeps it when it is retired
+keeps_by : (was : OutView) (state : State) → (retired_out_as state was).keeps ≡ was.keeps
+keeps_by was Live = refl
+keeps_by was Empty = refl
+keeps_by was Dead = refl
+
+keeps_on : (retires : Bool) (was last : OutView) → last ≡ out_after_retire retires was → last.keeps ≡ was.keeps
+keeps_on false was last place = ap (λ v. v.keeps) place
+keeps_on true was last place = ap (λ v. v.keeps) place ∙ keeps_by was was.state
 
 entry : (plan : Plan) (x : Connection) → (has : Contains plan.connections x) → slice_get plan.connections has.0 ≡ Some x
 entry plan x has = slice_get_read plan.connections (length plan.connections) has.0 x refl has.1 (sym has.2)
@@ -296,19 +307,19 @@ module _ (call : Call) (c : CallOf call) (k : Carrying call c) (is_plan : plan_o
       let opened = c.opens.line_out b less in
       let among : b < 20 = omega (arith, less) in
       got_all (line_out_at c.first b) (line_out_at c.last b) (output_of call b) opened
-      (stays_out (line_out_at c.first b) (line_out_at c.last b) (ap (λ v. v.state) opened) l.left.gained.state)
+      (l.left.gained.sends.keeps ∙ ap (λ v. v.keeps) opened)
       (subst (λ v. IsKept v (output_of call b)) (line_place c.last b less) (k.gives.outputs_got b among))
 
-  client_got : (x : Connection) (n : ℕ) → Contains call.plan.connections x → x.to ≡ to_end.Client n → x.retire ≡ false
+  client_got : (x : Connection) (n : ℕ) → Contains call.plan.connections x → x.to ≡ to_end.Client n
       → IsWritten (client_out_at c.first n) (client_out_at c.last n) (output_of call (4 + n))
-  client_got x n has to keeps =
+  client_got x n has to =
       let less : n < 16 = (sound x has).to_client n to in
       let l = of_taken.outputs.client x n has to in
       let opened = c.opens.client_out n less in
       let among : 4 + n < 20 = omega (arith, less) in
-      let same : client_out_at c.last n ≡ l.was = l.place ∙ ap (λ retires. out_after_retire retires l.was) keeps in
-      let some = stays_out (client_out_at c.first n) l.was (ap (λ v. v.state) opened) l.left.gained.state in
-      got_all (client_out_at c.first n) (client_out_at c.last n) (output_of call (4 + n)) opened (λ empty. some (ap (λ v. v.state) (sym same) ∙ empty))
+      let keeps = keeps_on x.retire l.was (client_out_at c.last n) l.place in
+      got_all (client_out_at c.first n) (client_out_at c.last n) (output_of call (4 + n)) opened
+      (keeps ∙ l.left.gained.sends.keeps ∙ ap (λ v. v.keeps) opened)
       (subst (λ v. IsKept v (output_of call (4 + n))) (client_place c.last n) (k.gives.outputs_got (4 + n) among))
 
   is_run_here : IsRunOf call (record { plan = call.plan; before = c.first; after = c.last })

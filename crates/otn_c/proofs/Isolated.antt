@@ -25,10 +25,10 @@ isolated law one other x first second share =
     let same : SameOutput (run_of one first) (run_of other second) x
     = law (run_of one first) (run_of other second) x is.ran is_too.ran (record { first = share.first; second = share.second; agree = agree }) in
     record {
-      text = λ n to keeps.
-          (same.client n (output_of one (4 + n)) (output_of other (4 + n)) to (is.client_out x n share.first to keeps) (is_too.client_out x n share.second to keeps)).front;
-      whole_text = λ n to keeps whole whole_too.
-          (same.client n (output_of one (4 + n)) (output_of other (4 + n)) to (is.client_out x n share.first to keeps) (is_too.client_out x n share.second to keeps)).whole
+      text = λ n to.
+          (same.client n (output_of one (4 + n)) (output_of other (4 + n)) to (is.client_out x n share.first to) (is_too.client_out x n share.second to)).front;
+      whole_text = λ n to whole whole_too.
+          (same.client n (output_of one (4 + n)) (output_of other (4 + n)) to (is.client_out x n share.first to) (is_too.client_out x n share.second to)).whole
           (is.client_lived x n whole share.first to) (is_too.client_lived x n whole_too share.second to);
       places = λ b number past n row column slots place mask gone gone_too.
           (same.line b number past n row column slots (output_of one b) (output_of other b) place mask

@@ -1,4 +1,3 @@
-mod AwaitedLists
 mod Answering
 mod ByteRuns
 mod Calm

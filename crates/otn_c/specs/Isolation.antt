@@ -84,8 +84,7 @@ client_handed call n = input_given false (input_of call (4 + n))
 -- ---- the call as a run
 
 -- What a call of `run` is: a run over places, whose ports gave the very bytes that were handed in, and got those that
--- were handed out. All places of the outputs have lived where the answer is Done or Unfinished. Of a client output
--- whose connection retires it is not said what that got.
+-- were handed out. All places of the outputs have lived where the answer is Done or Unfinished.
 pub record IsRunOf (call : Call) (run : Run) : Type 0 where
   pub ran : Ran run
   pub carries : run.plan ≡ call.plan
@@ -96,7 +95,7 @@ pub record IsRunOf (call : Call) (run : Run) : Type 0 where
   pub line_out : (x : Connection) (b port : ℕ) (slots : LineSlots) → Contains call.plan.connections x
       → x.to ≡ to_end.Line b port slots → LineGot run b (output_of call b)
   pub client_out : (x : Connection) (n : ℕ) → Contains call.plan.connections x → x.to ≡ to_end.Client n
-      → x.retire ≡ false → ClientGot run n (output_of call (4 + n))
+      → ClientGot run n (output_of call (4 + n))
   pub line_lived : (x : Connection) (b port : ℕ) (slots : LineSlots) → IsWhole call.code
       → Contains call.plan.connections x → x.to ≡ to_end.Line b port slots → LineLived run b
   pub client_lived : (x : Connection) (n : ℕ) → IsWhole call.code → Contains call.plan.connections x
@@ -120,13 +119,13 @@ pub record ShareHanded (one other : Call) (x : Connection) : Type 0 where
   pub agree : AgreeOnHanded x.from one other
 
 -- What was handed out of a connection is the same in both. To its client: of the two texts one begins with the other,
--- and they are one where both calls answered Done or Unfinished; that is not said where the connection retires. On its
--- line: at each own place whose byte was handed out in both, and so in each of its turns where both answered Done or
--- Unfinished, stands the same byte, where both lines are scrambled, or neither is.
+-- and they are one where both calls answered Done or Unfinished. On its line: at each own place whose byte was handed
+-- out in both, and so in each of its turns where both answered Done or Unfinished, stands the same byte, where both
+-- lines are scrambled, or neither is.
 pub record SameHandedOut (one other : Call) (x : Connection) : Type 0 where
-  pub text : (n : ℕ) → x.to ≡ to_end.Client n → x.retire ≡ false
+  pub text : (n : ℕ) → x.to ≡ to_end.Client n
       → IsFrontOfOther (output_of one (4 + n)) (output_of other (4 + n))
-  pub whole_text : (n : ℕ) → x.to ≡ to_end.Client n → x.retire ≡ false → IsWhole one.code → IsWhole other.code
+  pub whole_text : (n : ℕ) → x.to ≡ to_end.Client n → IsWhole one.code → IsWhole other.code
       → output_of one (4 + n) ≡ output_of other (4 + n)
   pub places : (b port past n row column : ℕ) (slots : LineSlots) → HasPlace x b port past n row column slots
       → (form_out one.plan b).scrambled ≡ (form_out other.plan b).scrambled

@@ -1,4 +1,3 @@
-pub mod Awaiting
 pub mod Blocks
 pub mod Calls
 pub mod Growing

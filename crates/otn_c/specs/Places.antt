@@ -1,6 +1,6 @@
 -- Believed: the places of a call: what its inputs hold before it, and what is seen of its outputs after it.
-use Rattle.std.specs.Prelude.{◌≡◌, ◌≢◌, ◌<◌, ◌+◌, ◌-◌, ◌≤◌, ◌++◌, ℕ, zero, suc, if◌then◌else◌, nat_lt, List, get_or, length, take, Some}
-use Rattle.port_base.specs.Views.{Empty, InView, OutView, BaysView, no_input, line_in_at, line_out_at, client_in_at, client_out_at}
+use Rattle.std.specs.Prelude.{◌≡◌, ◌<◌, ◌+◌, ◌-◌, ◌≤◌, ◌++◌, ℕ, zero, suc, if◌then◌else◌, nat_lt, List, get_or, length, take, Some}
+use Rattle.port_base.specs.Views.{InView, OutView, BaysView, no_input, line_in_at, line_out_at, client_in_at, client_out_at}
 use Rattle.line_tool.specs.TrialRuns.{holding, waiting}
 use Rattle.otn_c.specs.Blocks.{IsNoPart, part_of, start_of, end_of}
 
@@ -54,9 +54,9 @@ pub record ClientsUpTo (present block ends : List ℕ) (n : ℕ) (first now : Ba
 abbrev pub output_at : BaysView → ℕ → OutView
 output_at bays n = if nat_lt n 4 then line_out_at bays n else client_out_at bays (n - 4)
 
--- these are the bytes that a place's port got, where that port is in it yet
+-- these are the bytes that a place's port got: of a retired place too, whose port keeps them
 abbrev pub IsKept : OutView → List ℕ → Type 0
-IsKept place bytes = place.state ≢ Empty → place.got ≡ Some bytes
+IsKept place bytes = place.got ≡ Some bytes
 
 -- bytes that a place's port got, as many as this
 pub record HasSize (place : OutView) (size : ℕ) : Type 0 where

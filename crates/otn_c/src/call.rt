@@ -2,15 +2,14 @@
 ghost use Rattle.std.specs.Prelude.{◌≡◌, ◌≢◌, ◌≤◌, ◌⊎◌, IfOk, length};
 ghost use Rattle.port_base.specs.PortViews.{sink_view};
 ghost use Rattle.port_base.specs.Racks.{bays_view};
-ghost use Rattle.otn_c.specs.Awaiting.{AreOutputs};
 ghost use Rattle.otn_c.specs.Calls.{CallEnds, Called, IsHandedOut, IsNoCall, Tells, no_call, no_memory};
 
 use crate::answer::Answer;
 use crate::answered::answer;
-use crate::awaited::{Awaited, known_outputs};
 use crate::blocks::put;
 use crate::outputs::{PORTS, put_outputs};
 use crate::places::{Places, places_of};
+use crate::rooms::rooms_of;
 use crate::words::words_of;
 use crate::{GrowingSink, SliceSource};
 use line_tool::Status;
@@ -91,22 +90,13 @@ fn call(
     let Some(list) = words_of(alloc, words)? else {
         return Ok(NO_CALL);
     };
-    let known = known_outputs(alloc, &list, plan, ends)?;
-    let Some(mut bays) = places_of(alloc, inputs, ends, present, &known)? else {
+    let rooms = rooms_of(alloc, &list, plan, ends)?;
+    let Some(mut bays) = places_of(alloc, inputs, ends, present, &rooms)? else {
         return Ok(NO_CALL);
     };
     let mut got = GrowingSink::new(alloc);
     let status = answer(alloc, &list, plan, &mut bays, &mut got);
-    let code = hand_out(
-        status,
-        &bays,
-        &known,
-        &got,
-        outputs,
-        output_ends,
-        report,
-        told,
-    )?;
+    let code = hand_out(status, &bays, &got, outputs, output_ends, report, told)?;
     Ok(code)
 }
 
@@ -114,7 +104,6 @@ fn call(
 fn hand_out(
     status: Status,
     bays: &Places<'_>,
-    awaited: &[Awaited],
     got: &GrowingSink,
     outputs: &mut [u8],
     output_ends: &mut [usize],
@@ -122,13 +111,12 @@ fn hand_out(
     told: &mut Answer,
 ) -> Result<u32, Memory>
     requires ends { length output_ends.old ≡ 20 }
-    requires awaited { AreOutputs 20 awaited.now }
     ensures { IfOk result (λ code. IsHandedOut code status
         (bays_view ⟦<SliceSource<'static> as Source>⟧ ⟦<GrowingSink as Sink>⟧ bays.now)
         (sink_view ⟦<GrowingSink as Sink>⟧ got.now)
         told.new outputs.new output_ends.new report.new) }
 {
-    let Some(total) = put_outputs(bays, awaited, outputs, output_ends) else {
+    let Some(total) = put_outputs(bays, outputs, output_ends) else {
         return Err(Memory);
     };
     let bytes = got.bytes();

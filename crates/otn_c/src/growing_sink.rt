@@ -1,21 +1,15 @@
 // A sink in memory that grows.
-ghost use Rattle.std.specs.Prelude.{◌≡◌, ◌≢◌, ◌≤◌, ◌++◌, [], true, Some, IfOk, OnOk, OnErr, if◌then◌else◌, is_ok, length, take};
+ghost use Rattle.std.specs.Prelude.{◌≡◌, ◌≢◌, ◌≤◌, ◌++◌, [], true, Some, IfOk, OnErr, length, take};
 ghost use Rattle.port_base.specs.Bytes.{sent, faults_after, HasFailed};
 ghost use Rattle.port_base.specs.Writes.{IsWriting};
 
 use port_base::{Failed, Sink, Written};
 use std::alloc::Global;
-use std::cell::RefCell;
-use std::rc::Rc;
-
-/// Bytes that are found after the sink was dropped that put them there too.
-pub(crate) type Beside = Rc<RefCell<Vec<u8>>>;
 
 /// Keeps all bytes that it gets, in memory that grows as they come, and tells them. It fails where there is no memory.
 #[derive(Drop)]
 pub struct GrowingSink {
     kept: Vec<u8>,
-    beside: Option<Beside>,
     failed: u64,
 }
 
@@ -29,20 +23,18 @@ impl GrowingSink {
     {
         GrowingSink {
             kept: Vec::new(alloc),
-            beside: None,
             failed: 0,
         }
     }
 
     /// One that got nothing yet. So much room is made for it at once, where there is memory for that, and else as bytes
-    /// come. What it gets is kept beside it too, where a place for that is given.
-    pub(crate) fn with(alloc: Global, room: usize, beside: Option<Beside>) -> GrowingSink
+    /// come.
+    pub(crate) fn with(alloc: Global, room: usize) -> GrowingSink
         ensures got { growing_got result ≡ [] }
         ensures faults { growing_faults result ≡ 0 }
     {
         GrowingSink {
             kept: room_for(alloc, room),
-            beside,
             failed: 0,
         }
     }
@@ -60,28 +52,9 @@ impl GrowingSink {
         ensures got { growing_got self.new ≡ growing_got self.old ++ sent result bytes.now }
         ensures faults { growing_faults self.new ≡ growing_faults self.old }
     {
-        let before = self.kept.len();
         match self.kept.extend_from_slice(bytes) {
-            Ok(()) => self.put_beside(before, bytes),
-            Err(_) => Err(Failed),
-        }
-    }
-
-    // Puts the bytes that came behind the first ones beside the sink too; where there is no memory for that it lets go
-    // of them.
-    fn put_beside(&mut self, before: usize, bytes: &[u8]) -> Result<usize, Failed>
-        requires { before ≤ length (growing_got self.old) }
-        ensures all { IfOk result (λ n. n ≡ length bytes.now) }
-        ensures kept { OnOk result (growing_got self.new ≡ growing_got self.old) }
-        ensures lost { OnErr result (growing_got self.new ≡ take before (growing_got self.old)) }
-        ensures faults { growing_faults self.new ≡ growing_faults self.old }
-    {
-        match keep(&self.beside, bytes) {
             Ok(()) => Ok(bytes.len()),
-            Err(Failed) => {
-                self.kept.truncate(before);
-                Err(Failed)
-            }
+            Err(_) => Err(Failed),
         }
     }
 }
@@ -94,26 +67,6 @@ fn room_for(alloc: Global, room: usize) -> Vec<u8>
         Ok(kept) => kept,
         Err(_) => Vec::new(alloc),
     }
-}
-
-// Appends these bytes to what is kept beside, where there is such a place.
-fn keep(beside: &Option<Beside>, bytes: &[u8]) -> Result<(), Failed> {
-    match beside {
-        Some(beside) => append(beside, bytes),
-        None => Ok(()),
-    }
-}
-
-fn append(beside: &Beside, bytes: &[u8]) -> Result<(), Failed> {
-    let mut kept = beside.try_borrow_mut().map_err(|_| Failed)?;
-    grow(&mut kept, bytes)
-}
-
-// Appends these bytes to those that came before, or leaves these as they are where there is no memory.
-fn grow(kept: &mut Vec<u8>, bytes: &[u8]) -> Result<(), Failed>
-    ensures { kept.new.items ≡ (if is_ok result then kept.old.items ++ bytes.now else kept.old.items) }
-{
-    kept.extend_from_slice(bytes).map_err(|_| Failed)
 }
 
 impl Sink for GrowingSink {

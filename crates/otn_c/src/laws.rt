@@ -9,8 +9,7 @@ use line_tool::headline;
 /// what is handed out of it agrees: a client's text, and on a line its own places, where both lines are scrambled or
 /// neither is. That is so wholly where both calls answered Done or Unfinished; where one answered Cut or ReportFault,
 /// as far as both have gone. Each call that answered one of these four carried the plan of its text (`plans`), and is a
-/// run whose ports gave and got these very bytes (`runs`), so that every clause of `headline` speaks of it. What a
-/// client output got whose connection retires is not said.
+/// run whose ports gave and got these very bytes (`runs`), so that every clause of `headline` speaks of it.
 pub fn headline_of_bytes()
     ensures plans { CallsCarryPlans }
     ensures runs { CallsAreRuns }

@@ -5,10 +5,10 @@
 //! - `answered`: its words, answered over places in memory.
 //! - `node_calls`: the calls of a node that is driven turn by turn.
 //! - `places`, `outputs`: the places of its inputs and outputs, and what the outputs got.
-//! - `awaited`: what is known of the outputs before a run.
 //! - `blocks`: parts that lie one behind the other in one slice.
 //! - `growing_sink`: a sink in memory that grows.
 //! - `laws`: the promise of isolation, of any two calls, by their bytes alone.
+//! - `rooms`: how much room is made for each output before a run.
 //! - `slice_source`: a source over bytes that are lent.
 //! - `version`: the version of the library.
 //! - `words`: the words of a line.
@@ -19,7 +19,6 @@ ghost use Rattle.otn_c.specs.Calls.{Called, IsNoCall, PlanOverBytes, PullOverByt
 
 mod answer;
 mod answered;
-mod awaited;
 mod blocks;
 mod call;
 mod growing_sink;
@@ -27,6 +26,7 @@ mod laws;
 mod node_calls;
 mod outputs;
 mod places;
+mod rooms;
 mod slice_source;
 #[cfg(test)]
 mod tests;

@@ -1,12 +1,9 @@
 // What the outputs of a call got, put into a block.
-ghost use Rattle.std.specs.Prelude.{◌≡◌, ◌<◌, IfSome, length};
+ghost use Rattle.std.specs.Prelude.{◌≡◌, ◌<◌, Some, IfSome, length};
 ghost use Rattle.port_base.specs.OutPlace.{out_view};
 ghost use Rattle.port_base.specs.Racks.{bays_view};
-ghost use Rattle.port_base.specs.Views.{Empty};
-ghost use Rattle.otn_c.specs.Awaiting.{AreOutputs};
 ghost use Rattle.otn_c.specs.Places.{IsPut, IsPutOf, OutUpTo, output_at};
 
-use crate::awaited::Awaited;
 use crate::blocks::put;
 use crate::places::Places;
 use crate::{GrowingSink, SliceSource};
@@ -17,16 +14,10 @@ use port_base::{OutPlaceOf, Sink, Source};
 pub(crate) const PORTS: usize = LINES + CLIENTS;
 
 /// Puts what each output got into the block, one behind the other, as far as there is room, and where each of them
-/// ends, or would end, among the ends. Of a client output that was retired that is what was kept beside it. The answer
-/// is the last of the ends; none where it is no number of this machine.
-pub(crate) fn put_outputs(
-    bays: &Places<'_>,
-    awaited: &[Awaited],
-    block: &mut [u8],
-    ends: &mut [usize],
-) -> Option<usize>
+/// ends, or would end, among the ends: of a client output too whose place was retired. The answer is the last of the
+/// ends; none where it is no number of this machine.
+pub(crate) fn put_outputs(bays: &Places<'_>, block: &mut [u8], ends: &mut [usize]) -> Option<usize>
     requires ends { length ends.old ≡ 20 }
-    requires awaited { AreOutputs 20 awaited.now }
     ensures block { length block.new ≡ length block.old }
     ensures ends { length ends.new ≡ length ends.old }
     ensures out { IfSome result (OutUpTo 20
@@ -34,7 +25,7 @@ pub(crate) fn put_outputs(
 {
     let mut total = 0;
     for n in 0..PORTS {
-        let end = put_output(place_of(bays, n), &awaited[n], n, block, total)?;
+        let end = put_output(place_of(bays, n), block, total)?;
         ends[n] = end;
         total = end;
     }
@@ -54,43 +45,21 @@ fn place_of<'a>(bays: &'a Places<'_>, n: usize) -> &'a OutPlaceOf<GrowingSink>
     }
 }
 
-// Puts what the port of output n got behind the first `at` bytes of the block, or what was kept beside it, and answers
-// where it ends.
-fn put_output(
-    place: &OutPlaceOf<GrowingSink>,
-    awaited: &Awaited,
-    n: usize,
-    block: &mut [u8],
-    at: usize,
-) -> Option<usize>
-    requires { awaited.now.output ≡ n }
+// Puts what the port of a place got behind the first `at` bytes of the block, and answers where it ends.
+fn put_output(place: &OutPlaceOf<GrowingSink>, block: &mut [u8], at: usize) -> Option<usize>
     ensures length { length block.new ≡ length block.old }
     ensures put { IfSome result (IsPutOf (out_view ⟦<GrowingSink as Sink>⟧ place.now) at block.old block.new) }
 {
-    match awaited.beside_of(n) {
-        Some(beside) => match beside.try_borrow() {
-            Ok(kept) => put_place(place, kept.as_slice(), block, at),
-            Err(_) => None,
-        },
-        None => put_place(place, &[], block, at),
-    }
+    put_bytes(block, at, got_of(place))
 }
 
-// Puts what the port of a place got, or these bytes where that is there no more.
-fn put_place(
-    place: &OutPlaceOf<GrowingSink>,
-    kept: &[u8],
-    block: &mut [u8],
-    at: usize,
-) -> Option<usize>
-    ensures length { length block.new ≡ length block.old }
-    ensures put { IfSome result (IsPutOf (out_view ⟦<GrowingSink as Sink>⟧ place.now) at block.old block.new) }
-    ensures kept { (out_view ⟦<GrowingSink as Sink>⟧ place.now).state ≡ Empty
-        → IfSome result (IsPut kept.now at block.old block.new) }
+// What the port of a place got, and nothing where the place never had a port.
+fn got_of(place: &OutPlaceOf<GrowingSink>) -> &[u8]
+    ensures { (out_view ⟦<GrowingSink as Sink>⟧ place.now).got ≡ Some result.now }
 {
     match place.kept() {
-        Some(bytes) => put_bytes(block, at, bytes),
-        None => put_bytes(block, at, kept),
+        Some(bytes) => bytes,
+        None => &[],
     }
 }
 

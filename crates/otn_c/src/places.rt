@@ -4,11 +4,9 @@ ghost use Rattle.port_base.specs.InPlace.{in_view};
 ghost use Rattle.port_base.specs.OutPlace.{out_view};
 ghost use Rattle.port_base.specs.Racks.{bays_view};
 ghost use Rattle.line_tool.specs.TrialRuns.{waiting};
-ghost use Rattle.otn_c.specs.Awaiting.{AreOutputs};
 ghost use Rattle.otn_c.specs.Blocks.{IsNoPart};
 ghost use Rattle.otn_c.specs.Places.{OpensWith, HasNoPart, LinesUpTo, ClientsUpTo, input_at};
 
-use crate::awaited::Awaited;
 use crate::blocks::part;
 use crate::{GrowingSink, SliceSource};
 use otn_base::Memory;
@@ -19,28 +17,28 @@ use std::alloc::Global;
 /// Places in memory, whose outputs grow.
 pub(crate) type Places<'a> = Rack<SliceSource<'a>, GrowingSink>;
 
-/// The places of a call with these inputs, whose flags say which are there, and with what is known of its outputs. None
+/// The places of a call with these inputs, whose flags say which are there, and with so much room for each output. None
 /// where an input is no part of the block.
 pub(crate) fn places_of<'a>(
     alloc: Global,
     block: &'a [u8],
     ends: &[usize],
     present: &[u8],
-    awaited: &[Awaited],
+    rooms: &[usize],
 ) -> Result<Option<Places<'a>>, Memory>
     requires ends { length ends.now ≡ 20 }
     requires present { length present.now ≡ 20 }
-    requires awaited { AreOutputs 20 awaited.now }
+    requires rooms { length rooms.now ≡ 20 }
     ensures opens { IfOk result (λ made. MatchOption made (HasNoPart block.now ends.now)
         (λ bays. OpensWith present.now block.now ends.now
         (bays_view ⟦<SliceSource<'static> as Source>⟧ ⟦<GrowingSink as Sink>⟧ bays))) }
     ensures parts { IfOk result (λ made. OnSome made (HasNoPart block.now ends.now → ⊥)) }
 {
     let mut bays = Rack::new(alloc)?;
-    let Some(()) = fill_lines(alloc, &mut bays, block, ends, present, awaited)? else {
+    let Some(()) = fill_lines(alloc, &mut bays, block, ends, present, rooms)? else {
         return Ok(None);
     };
-    let Some(()) = fill_clients(alloc, &mut bays, block, ends, present, awaited)? else {
+    let Some(()) = fill_clients(alloc, &mut bays, block, ends, present, rooms)? else {
         return Ok(None);
     };
     Ok(Some(bays))
@@ -53,11 +51,11 @@ fn fill_lines<'a>(
     block: &'a [u8],
     ends: &[usize],
     present: &[u8],
-    awaited: &[Awaited],
+    rooms: &[usize],
 ) -> Result<Option<()>, Memory>
     requires ends { length ends.now ≡ 20 }
     requires present { length present.now ≡ 20 }
-    requires awaited { AreOutputs 20 awaited.now }
+    requires rooms { length rooms.now ≡ 20 }
     ensures { IfOk result (λ made. MatchOption made (HasNoPart block.now ends.now)
         (λ _. LinesUpTo present.now block.now ends.now 4
         (bays_view ⟦<SliceSource<'static> as Source>⟧ ⟦<GrowingSink as Sink>⟧ bays.old)
@@ -68,7 +66,7 @@ fn fill_lines<'a>(
             return Ok(None);
         };
         bays.set_line_in(n, place);
-        bays.set_line_out(n, output(alloc, &awaited[n as usize], n as usize)?);
+        bays.set_line_out(n, output(alloc, rooms[n as usize]));
     }
     Ok(Some(()))
 }
@@ -80,11 +78,11 @@ fn fill_clients<'a>(
     block: &'a [u8],
     ends: &[usize],
     present: &[u8],
-    awaited: &[Awaited],
+    rooms: &[usize],
 ) -> Result<Option<()>, Memory>
     requires ends { length ends.now ≡ 20 }
     requires present { length present.now ≡ 20 }
-    requires awaited { AreOutputs 20 awaited.now }
+    requires rooms { length rooms.now ≡ 20 }
     ensures { IfOk result (λ made. MatchOption made (HasNoPart block.now ends.now)
         (λ _. ClientsUpTo present.now block.now ends.now 16
         (bays_view ⟦<SliceSource<'static> as Source>⟧ ⟦<GrowingSink as Sink>⟧ bays.old)
@@ -95,8 +93,7 @@ fn fill_clients<'a>(
             return Ok(None);
         };
         bays.set_client_in(n, place);
-        let m = LINES + n as usize;
-        bays.set_client_out(n, output(alloc, &awaited[m], m)?);
+        bays.set_client_out(n, output(alloc, rooms[LINES + n as usize]));
     }
     Ok(Some(()))
 }
@@ -121,17 +118,9 @@ fn input<'a>(
     Some(InPlaceOf::Live(SliceSource::new(bytes), 0))
 }
 
-// The place of output n, which got nothing yet.
-fn output(alloc: Global, awaited: &Awaited, n: usize) -> Result<OutPlaceOf<GrowingSink>, Memory>
-    requires { awaited.now.output ≡ n }
-    ensures { IfOk result (λ place. out_view ⟦<GrowingSink as Sink>⟧ place ≡ waiting) }
+// The place of an output, which got nothing yet, with so much room.
+fn output(alloc: Global, room: usize) -> OutPlaceOf<GrowingSink>
+    ensures { out_view ⟦<GrowingSink as Sink>⟧ result ≡ waiting }
 {
-    let sink = match awaited.beside_of(n) {
-        Some(beside) => {
-            let shared = beside.clone()?;
-            GrowingSink::with(alloc, awaited.room, Some(shared))
-        }
-        None => GrowingSink::with(alloc, awaited.room, None),
-    };
-    Ok(OutPlaceOf::Live(sink, 0))
+    OutPlaceOf::Live(GrowingSink::with(alloc, room), 0)
 }

@@ -1,4 +1,4 @@
-// What no contract says: the text of a client output that its plan retires is handed out, whole; and calls succeed.
+// The text of a client output that its plan retires is handed out whole, whatever the order; and calls succeed.
 use crate::{Answer, GrowingSink, SliceSource, otn_run, otn_version};
 use otn_base::Memory;
 use port_base::{Sink, Source};
