@@ -74,7 +74,8 @@ impl Passing {
 }
 
 fn append_zeros(bytes: &mut Vec<u8>, count: usize) -> Result<(), Failed>
-    ensures { OnOk result (bytes.new.items ≡ bytes.old.items ++ replicate count 0) }
+    ensures zeros { OnOk result (bytes.new.items ≡ bytes.old.items ++ replicate count 0) }
+    ensures more { vec_len bytes.old ≤ vec_len bytes.new }
 {
     let Some(all) = bytes.len().checked_add(count) else {
         return Err(Failed);
