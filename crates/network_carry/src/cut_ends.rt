@@ -1,4 +1,5 @@
 // The ends of a fibre that is cut: a line to the outside of the network, and one from there.
+ghost use Rattle.network_carry.specs.declared.cut_ends.TheConstants.{MOST_BYTES};
 ghost use Rattle.std.specs.Prelude.{◌≡◌, ◌≤◌, ◌<◌, ◌/◌, ◌+◌, false, None, IfOk, length};
 
 use crate::passing::Passing;
@@ -8,6 +9,9 @@ use port_base::{Failed, Sink, Source};
 use std::alloc::Global;
 use std::cell::RefCell;
 use std::rc::Rc;
+
+// The most bytes that go over a fibre: it takes no more.
+const MOST_BYTES: u64 = 1 << 62;
 
 type Shared = Rc<RefCell<Passing>>;
 
@@ -22,6 +26,7 @@ pub struct CutSink {
     total: u64,
     failed: u64,
     ghost some: { 0 < turn_bytes },
+    ghost few: { total ≤ MOST_BYTES },
 }
 
 /// Gives what came over such a fibre. A read that finds nothing answers the end, for ever.
@@ -96,6 +101,9 @@ impl CutSink {
     {
         let n = self.part(bytes.len());
         let total = self.total.checked_add(n as u64).ok_or(Failed)?;
+        if total > MOST_BYTES {
+            return Err(Failed);
+        }
         pass(&self.shared, &bytes[..n], self.is_dark())?;
         self.total = total;
         Ok(n)

@@ -1,6 +1,5 @@
 // What goes over a fibre that is cut, between its ends.
 ghost use Rattle.std.specs.Prelude.{◌≡◌, ◌≤◌, ◌++◌, [], IfOk, OnOk, length, min, replicate, take, vec_len};
-ghost use Rattle.network_carry.specs.Outside.{passed, passing_left};
 
 use otn_base::Memory;
 use port_base::Failed;
@@ -17,6 +16,8 @@ pub(crate) struct Passing {
 }
 
 impl Passing {
+    ghost use Rattle.network_carry.specs.Outside.{passed, passing_left};
+
     /// Nothing yet, with room for so many bytes.
     pub(crate) fn with_room(alloc: Global, room: usize) -> Result<Passing, Memory>
         ensures { IfOk result (λ passing. passing_left passing ≡ []) }
@@ -73,7 +74,8 @@ impl Passing {
 }
 
 fn append_zeros(bytes: &mut Vec<u8>, count: usize) -> Result<(), Failed>
-    ensures { OnOk result (bytes.new.items ≡ bytes.old.items ++ replicate count 0) }
+    ensures zeros { OnOk result (bytes.new.items ≡ bytes.old.items ++ replicate count 0) }
+    ensures more { vec_len bytes.old ≤ vec_len bytes.new }
 {
     let Some(all) = bytes.len().checked_add(count) else {
         return Err(Failed);
