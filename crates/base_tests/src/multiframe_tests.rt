@@ -45,7 +45,8 @@ fn ended(first: u8, taken: &[u8], kind: LineKind, n: u8) -> (bool, Option<u8>) {
     (whole, Some(phase.expected(n)))
 }
 
-// A turn of these MFAS bytes where the first was expected: whether it is whole, and the MFAS expected n frames after it.
+// A turn of these MFAS bytes, of which the first was expected: whether it is whole, and the MFAS that is expected n
+// frames after it.
 #[derive(Clone, Copy)]
 struct Case<'a> {
     first: u8,

@@ -1,5 +1,5 @@
--- API: the ends of a fibre that is cut: what goes over it, and the meanings of ports outside a network, of which some are
--- such ends.
+-- API: the ends of a fibre that is cut: what goes over it, and the meanings of ports outside a network, of which some
+-- are such ends.
 use Rattle.std.specs.Prelude.{ℕ, ◌+◌, ◌/◌, Bool, false, List, [], drop, length, replicate, Option, None, if◌then◌else◌}
 use Rattle.network_file.specs.Cuts.{is_dark}
 use Rattle.network_carry.specs.declared.cut_ends.CutSink.{CutSink}

@@ -33,9 +33,9 @@ pub struct Carried {
 }
 
 /// Runs the network of an accepted file and these plans, turn by turn to the end, over the places of its nodes, which
-/// are before turn 1, in the order of the file. Its fibres are in memory, and may lead round. A fibre that is cut is none
-/// of the network: its ends are a line to the outside and one from there. It answers `Memory` where there is none for its
-/// room, of a turn of a line, of the fibres and of the numbers: it has done nothing then.
+/// are before turn 1, in the order of the file. Its fibres are in memory, and may lead round. A fibre that is cut is
+/// none of the network: its ends are a line to the outside and one from there. It answers `Memory` where there is none
+/// for its room, of a turn of a line, of the fibres and of the numbers: it has done nothing then.
 ///
 /// A port that fails kills its own place and no other. What goes over a fibre that is recorded is written beside.
 pub fn carry_network<P: Source, K: Sink, R: Sink>(

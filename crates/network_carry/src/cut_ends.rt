@@ -15,8 +15,8 @@ const MOST_BYTES: u64 = 1 << 62;
 
 type Shared = Rc<RefCell<Passing>>;
 
-/// Takes what leaves at the near end of a fibre, from turn 1 on. It hands it to the far end, with zeros in place of it in
-/// the turns in which the fibre is dark: no light. It tells no bytes, as a file does.
+/// Takes what leaves at the near end of a fibre, from turn 1 on. It hands it to the far end, with zeros in place of it
+/// in the turns in which the fibre is dark: no light. It tells no bytes, as a file does.
 #[derive(Drop)]
 pub struct CutSink {
     shared: Shared,

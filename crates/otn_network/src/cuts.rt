@@ -9,8 +9,8 @@ use port_base::{InPlaceOf, OutPlaceOf};
 use std::alloc::Global;
 use turn_pieces::uses;
 
-/// Puts the far end of each fibre that is cut at its line, and adds its near end to what is recorded: what leaves on the
-/// line is written to it.
+/// Puts the far end of each fibre that is cut at its line, and adds its near end to what is recorded: what leaves on
+/// the line is written to it.
 pub(crate) fn put_cut_ends(
     alloc: Global,
     joined: &Joined,

@@ -122,8 +122,8 @@ pub(crate) fn make_outputs(
     Ok(())
 }
 
-// A file, where no fibre begins. Where one does it is no place yet, but where all that do are cut: then it is their near
-// end.
+// A file, where no fibre begins. Where one does it is no place yet, but where all that do are cut: then it is their
+// near end.
 fn make_line(
     rt: &HostRuntime,
     node: Node<'_>,

@@ -6,7 +6,8 @@
 //! - `reading`: the file of the network, and the plans of its nodes.
 //! - `run_words`, `running`: the words of `run`, and the run of a network.
 //! - `sites`: the nodes of a network over their places, and their run.
-//! - `files`, `marks`: the files of a node, and which files are read or written; `cuts`: the ends of fibres that are cut.
+//! - `files`, `marks`: the files of a node, and which files are read or written.
+//! - `cuts`: the ends of fibres that are cut.
 //! - `summary`: what is told beside the reports of the nodes.
 //! - `answer`: how the program ends, and what it complains of.
 #![tactic(auto)]

@@ -18,8 +18,8 @@ pub(crate) struct Ran<P, K> {
     pub(crate) carried: Carried,
 }
 
-/// Runs the network over the places of its nodes, in the order of the file, at whose lines it puts the ends of the fibres
-/// that are whole.
+/// Runs the network over the places of its nodes, in the order of the file, at whose lines it puts the ends of the
+/// fibres that are whole.
 pub(crate) fn run_sites<P: Source, K: Sink, R: Sink>(
     alloc: Global,
     joined: &Joined,
