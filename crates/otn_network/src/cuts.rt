@@ -40,19 +40,21 @@ fn put_ends(
     let (Some(plan), Some(next)) = (plans.get(fibre.from_node()), plans.get(fibre.to_node())) else {
         return Ok(());
     };
+    // What comes at a line that no entry reads would be kept for ever.
+    if !uses(next, PortName::LineIn(fibre.to_line())) {
+        return Ok(());
+    }
     let room = turn_bytes(plan, PortName::LineOut(fibre.from_line()));
     let cuts = joined.file.cuts.as_slice();
     let (sink, source) = cut_fibre(alloc, cuts, index + 1, room)?;
     let place = OutPlaceOf::Live(OutsideSink::Cut(sink), 0);
     recordings.push(Recording::new(fibre.from_node(), fibre.from_line(), place))?;
-    if uses(next, PortName::LineIn(fibre.to_line())) {
-        put_far(
-            places,
-            fibre.to_node(),
-            fibre.to_line(),
-            Outside::Cut(source),
-        );
-    }
+    put_far(
+        places,
+        fibre.to_node(),
+        fibre.to_line(),
+        Outside::Cut(source),
+    );
     Ok(())
 }
 
