@@ -7,7 +7,8 @@ use Rattle.port_base.specs.declared.ended.Ended.TheVariants.{Done, Unfinished, C
 use Rattle.tributary_model.specs.Places.{Tributary}
 use Rattle.device_model.specs.LineAsked.{InputLeft}
 use Rattle.run_laws.proofs.GivenRuns.{follows}
-use Rattle.protect_selector.specs.ProtectLeft.{AllDone, IsCut, LeftSo, ProtectRan, TookOf}
+use Rattle.protect_selector.specs.ProtectLeft.{AllDone, IsCut, LeftSo, ProtectRan}
+use Rattle.tributary_line.specs.TurnsLeft.{TookOf}
 use Rattle.protect_selector.specs.Protecting.{Ends, ends_of}
 use Rattle.command_base.specs.AnswerWords.{IsWell}
 use Rattle.command_base.specs.Ends.{line_status}

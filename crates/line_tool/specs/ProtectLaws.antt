@@ -10,7 +10,8 @@ use Rattle.line_side.specs.LineForm.{plain_otu2}
 use Rattle.tributary_model.specs.Places.{Tributary}
 use Rattle.device_model.specs.Moments.{line_read}
 use Rattle.protect_selector.specs.OfLines.{due_before, switch_text}
-use Rattle.protect_selector.specs.ProtectLeft.{HasMore, IsCut, OutputDue, StoppedIn}
+use Rattle.tributary_line.specs.TurnsLeft.{HasMore, OutputDue}
+use Rattle.protect_selector.specs.ProtectLeft.{IsCut, StoppedIn}
 use Rattle.protect_selector.specs.Protecting.{Ends, OnlyProtected, ends_of}
 use Rattle.command_base.specs.AnswerWords.{IsWell}
 use Rattle.line_tool.specs.Answers.{PlacesAnswers, Protects}
@@ -26,7 +27,8 @@ bytes_read turns available = min (length available) (line_read plain_otu2 availa
 -- as the turns want and one more, or all.
 pub record LeftOfGiven (own : Tributary) (turns wait : ℕ) (first last : Ends) (ended : Ended)
     (w p : List ℕ) : Type 0 where
-  pub output : ended ≢ ending.ReportFault → OutputDue own (due_before own wait w p turns) turns first last
+  pub output : ended ≢ ending.ReportFault → OutputDue own (due_before own wait w p turns) turns
+      first.output last.output
   pub report : ended ≢ ending.ReportFault → SinkGot first.report (switch_text own wait w p turns) last.report
   pub cut : ended ≢ ending.ReportFault → (ended ≡ ending.Cut) ↔ IsCut last
   pub unfinished : ended ≢ ending.ReportFault

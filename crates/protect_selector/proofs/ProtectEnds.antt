@@ -31,7 +31,8 @@ use Rattle.protect_selector.specs.Selector.{HasChosen}
 use Rattle.protect_selector.specs.OfLines.{turns_before, due_at, due_before, switch_text}
 use Rattle.protect_selector.specs.Protecting.{Ends, OnlyProtected, ends_of}
 use Rattle.protect_selector.specs.Steps.Protecting.{Stands, StandsLost, TurnGone, TurnsGone, SettledAs, AreReady, has_dead}
-use Rattle.protect_selector.specs.ProtectLeft.{HasMore, IsCut, OutputDue, AllDone, LeftSo, ProtectRan}
+use Rattle.protect_selector.specs.ProtectLeft.{IsCut, AllDone, LeftSo, ProtectRan}
+use Rattle.tributary_line.specs.TurnsLeft.{HasMore, OutputDue}
 use Rattle.protect_selector.proofs.ProtectTurns.{SeenOf}
 
 -- ---- what was asked
@@ -111,7 +112,7 @@ given_many own n w p zero = refl
 given_many own n w p (suc t) = let before = given_many own n w p t in omega (arith, length-append (due_before own n w p t) (due_at own n w p t ∷ []))
 
 output_due : (own : Tributary) (n : ℕ) (w p : List ℕ) (t : ℕ) (first last : Ends) (feed : FeedView) → FeedStands own first.output last.output (due_before own n w p t) feed
-    → OutputDue own (due_before own n w p t) t first last
+    → OutputDue own (due_before own n w p t) t first.output last.output
 output_due own n w p t first last feed fed =
     let has = fed.has in
     record {

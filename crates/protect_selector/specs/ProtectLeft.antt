@@ -1,42 +1,25 @@
 -- Believed: what the command leaves, from its places and the report as they were first to how they are last.
-use Rattle.std.specs.Prelude.{◌≡◌, ◌⊎◌, ◌↔◌, ◌<◌, ◌*◌, ℕ, suc, min, Bool, List, ◌++◌, length, take}
-use Rattle.std.specs.List.{concat}
-use Rattle.otn_base.specs.declared.limits.TheConstants.{OTU2_SLOTS}
+use Rattle.std.specs.Prelude.{◌≡◌, ◌⊎◌, ◌↔◌, ◌<◌, ℕ, suc, Bool, List, ◌++◌, length, take}
 use Rattle.port_base.specs.PortViews.{SinkGot}
-use Rattle.port_base.specs.Sent.{IsSent}
 use Rattle.port_base.specs.Views.{Dead}
 use Rattle.line_side.specs.LineForm.{plain_otu2}
 use Rattle.tributary_model.specs.Places.{Tributary}
 use Rattle.device_model.specs.Moments.{line_read}
-use Rattle.tributary_line.specs.TributaryFile.{IsTributaryFile}
+use Rattle.tributary_line.specs.TurnsLeft.{HasMore, OutputDue, TookOf}
 use Rattle.device_model.specs.LineAsked.{MayHave, InputLeft}
 use Rattle.protect_selector.specs.OfLines.{due_before, switch_text, switch_text_at}
 use Rattle.protect_selector.specs.Protecting.{Ends}
 use Rattle.port_base.specs.declared.ended.Ended.{Ended}
 use Rattle.port_base.specs.declared.ended.Ended.TheVariants.{Unfinished, Cut, ReportFault, Memory}
 
--- a line that has more than so many turns want
-abbrev pub HasMore : (turns : ℕ) → (available : List ℕ) → Type 0
-HasMore turns available = line_read plain_otu2 available turns 0 < length available
-
--- of a line was taken what so many turns want, and one byte more, or all that there is
-abbrev pub TookOf : (turns : ℕ) → (available read : List ℕ) → Type 0
-TookOf turns available read = length read ≡ min (length available) (suc (line_read plain_otu2 available turns 0))
-
 -- a place of the command is dead
 abbrev pub IsCut : Ends → Type 0
 IsCut last = (last.working.state ≡ Dead) ⊎ (last.protection.state ≡ Dead) ⊎ (last.output.state ≡ Dead)
 
--- the frames of these turns were due to the line output
-pub record OutputDue (own : Tributary) (turns : List (List ℕ)) (count : ℕ) (first last : Ends) : Type 0 where
-  pub frames : List (List ℕ)
-  pub file : IsTributaryFile 0 own turns (OTU2_SLOTS * count) frames
-  pub sent : IsSent first.output (concat frames) last.output
-
 -- where the report did not fail: all turns were done, and all lines written; the lines of both were taken
 pub record AllDone (own : Tributary) (turns n : ℕ) (first last : Ends) (ended : Ended)
     (working protection w p : List ℕ) : Type 0 where
-  pub output : OutputDue own (due_before own n w p turns) turns first last
+  pub output : OutputDue own (due_before own n w p turns) turns first.output last.output
   pub report : SinkGot first.report (switch_text own n w p turns) last.report
   pub working_took : TookOf turns w working
   pub protection_took : TookOf turns p protection
@@ -46,7 +29,7 @@ pub record AllDone (own : Tributary) (turns n : ℕ) (first last : Ends) (ended 
 -- Where it failed: that was at the line of the switch in turn t + 1, of which a part was written and not all, behind
 -- the lines before. The frames of the turns before were written.
 pub record StoppedIn (own : Tributary) (t n : ℕ) (first last : Ends) (w p : List ℕ) : Type 0 where
-  pub output : OutputDue own (due_before own n w p t) t first last
+  pub output : OutputDue own (due_before own n w p t) t first.output last.output
   pub written : ℕ
   pub part : written < length (switch_text_at own n w p t)
   pub report : SinkGot first.report (switch_text own n w p t ++ take written (switch_text_at own n w p t)) last.report
