@@ -19,6 +19,6 @@ returns-then-outputs-total c =
     c.put_outputs.new.block c.put_outputs.new.ends c.told_of.ensures.tells c.in-Some.total c.told_of.ensures.outputs
     c.in-Some.ensures.out c.bytes-bytes.result.now (ap Some (sym c.bytes-bytes.ensures)) (search rules) c.args.report.now
     (elim c.then-outputs-total.branch as (λ _. (length c.put_outputs.new.block < c.told_of.result.outputs) ⊎ (length c.args.report.now < c.told_of.result.report)) [
-      then-outputs-total-via-then-outputs-total w ↦ inl (search rules)
-    | then-outputs-total-via-else-outputs-total+then-report-bytes w ↦ inr (search rules)
+      | then-outputs-total-via-then-outputs-total w ↦ inl (search rules)
+      | then-outputs-total-via-else-outputs-total+then-report-bytes w ↦ inr (search rules)
     ])
